@@ -1,0 +1,26 @@
+-- Lists: the numbers from one on, and the members of which a test holds.
+use mathlib.Core.Bool.{Bool, true, false, _&&_, _||_}
+use mathlib.Core.List.{List, [], _∷_}
+use Prim.Native.Nat.{ℕ, zero, suc}
+use Rattle.plain.specs.Choice.{select}
+
+-- n numbers, from a on
+unfoldable pub range : ℕ → ℕ → List ℕ
+range a zero = []
+range a (suc n) = a ∷ range (suc a) n
+
+module _ {A : Type 0} (f : A → Bool) where
+  -- the members of which the test holds, in their order
+  unfoldable pub keepIf : List A → List A
+  keepIf [] = []
+  keepIf (x ∷ xs) = select (f x) (x ∷ keepIf xs) (keepIf xs)
+
+  -- the test holds of some member
+  unfoldable pub some-of : List A → Bool
+  some-of [] = false
+  some-of (x ∷ xs) = f x || some-of xs
+
+  -- how many members the test holds of
+  unfoldable pub count : List A → ℕ
+  count [] = 0
+  count (x ∷ xs) = select (f x) (suc (count xs)) (count xs)
