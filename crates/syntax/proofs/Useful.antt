@@ -1,0 +1,115 @@
+-- The useful place: the scan's steps, for the code, and that the scan finds the place that document 01 describes.
+use mathlib.Core.Path.{_≡_, refl, sym, ap, _∙_, subst}
+use mathlib.Core.Logic.{_⊎_, inl, inr, ⊎-elim}
+use mathlib.Core.Bool.{Bool, true, false}
+use mathlib.Core.List.{List, [], _∷_}
+use Prim.Native.Nat.{ℕ, zero, suc, _+_, _-_, _≤_, _<_, min}
+use native.Mathlib.Numerals.{add-one}
+use native.Mathlib.Decide.{ℕ-discrete, decLt}
+use native.Mathlib.Omega.{arith}
+use lib.ListN.{length, getD}
+use lib.Seq.{slice, slice-empty, slice-cons}
+use Rattle.plain.specs.Choice.{select}
+use Rattle.plain.proofs.Tests.{tested, not-both}
+use Rattle.syntax.specs.Token.{isWhitespace}
+use Rattle.syntax.specs.Walker.{byteAt, held, UsefulPlace, skipped, usefulFrom, useful}
+use Rattle.syntax.specs.declared.walker.Walker.{Walker}
+
+module _ (line : List ℕ) (l : ℕ) (fits : l ≤ length line) where
+  pub useful-end : usefulFrom line l l ≡ l
+  unfolding usefulFrom skipped
+  useful-end = rw slice-empty
+
+  unrolled : (c : ℕ) → c < l → usefulFrom line c l ≡ select (isWhitespace (byteAt line c)) (usefulFrom line (suc c) l) c
+  unfolding usefulFrom skipped
+  unrolled c h = ap (λ (bs : List ℕ). skipped bs c) (slice-cons c l line 0 h fits)
+
+  pub useful-here : (c : ℕ) → c < l → isWhitespace (byteAt line c) ≡ false → usefulFrom line c l ≡ c
+  useful-here c h e = unrolled c h ∙ ap (λ (b : Bool). select b (usefulFrom line (suc c) l) c) e
+
+  pub useful-later : (c : ℕ) → c < l → isWhitespace (byteAt line c) ≡ true → usefulFrom line (c + 1) l ≡ usefulFrom line c l
+  useful-later c h e =
+      ap (λ (n : ℕ). usefulFrom line n l) (add-one c)
+      ∙ sym (unrolled c h ∙ ap (λ (b : Bool). select b (usefulFrom line (suc c) l) c) e)
+
+  abbrev at : ℕ → Walker
+  at c = record { cursor = c; limit = l }
+
+  place-end : UsefulPlace line (at l) l
+  place-end = record {
+    from = omega arith;
+    within = omega arith;
+    passed = λ i h k. absurd (omega arith);
+    stands = λ h. absurd (omega arith)
+  }
+
+  place-here : (c : ℕ) → c < l → isWhitespace (byteAt line c) ≡ false → UsefulPlace line (at c) c
+  place-here c h e = record {
+    from = omega arith;
+    within = omega arith;
+    passed = λ i p q. absurd (omega arith);
+    stands = λ q. e
+  }
+
+  place-later : (c p : ℕ) → isWhitespace (byteAt line c) ≡ true → UsefulPlace line (at (suc c)) p → UsefulPlace line (at c) p
+  place-later c p e u = record {
+    from = omega (arith, u .from);
+    within = u .within;
+    passed = λ i h k. elim (ℕ-discrete i c) [ yes q ↦ ap (λ n. isWhitespace (byteAt line n)) q ∙ e | no n ↦ u .passed i (omega (arith, n)) k ];
+    stands = u .stands
+  }
+
+  -- from any place on, with so many bytes to go
+  placed : (d c : ℕ) → c + d ≡ l → UsefulPlace line (at c) (usefulFrom line c l)
+  placed zero c e =
+      let here : l ≡ c = omega arith in
+      subst (λ (n : ℕ). UsefulPlace line (at n) (usefulFrom line n l)) here
+      (subst (λ (n : ℕ). UsefulPlace line (at l) n) (sym useful-end) place-end)
+  placed (suc d) c e =
+      ⊎-elim
+      (λ t. subst (λ (n : ℕ). UsefulPlace line (at c) n)
+      (ap (λ n. usefulFrom line n l) (sym (add-one c)) ∙ useful-later c (omega arith) t)
+      (place-later c _ t (placed d (suc c) (omega arith))))
+      (λ t. subst (λ (n : ℕ). UsefulPlace line (at c) n) (sym (useful-here c (omega arith) t)) (place-here c (omega arith) t))
+      (tested (isWhitespace (byteAt line c)))
+
+-- a walker within its line
+abbrev pub Within : List ℕ → Walker → Type 0
+Within line w = (w .cursor ≤ w .limit) × (w .limit ≤ length line)
+
+pub held-within : (line : List ℕ) (w : Walker) → Within line (held line w)
+unfolding held
+held-within line w = (omega arith, omega arith)
+
+pub held-is-within : (line : List ℕ) (w v : Walker) → v ≡ held line w → Within line v
+held-is-within line w v e = subst (Within line) (sym e) (held-within line w)
+
+-- holding a walker that is within its line changes nothing
+pub held-same : (line : List ℕ) (w : Walker) → Within line w → held line w ≡ w
+unfolding held
+held-same line w h =
+    let l : min (w .limit) (length line) ≡ w .limit = omega arith in
+    let c : min (w .cursor) (min (w .limit) (length line)) ≡ w .cursor = omega arith in
+    λ i. record { cursor = c i; limit = l i }
+
+-- the scan finds the useful place
+pub useful-is : (line : List ℕ) (w : Walker) → Within line w → UsefulPlace line w (useful line w)
+unfolding useful
+useful-is line w h = placed line (w .limit) (h .1) (w .limit - w .cursor) (w .cursor) (omega arith)
+
+-- and there is only one
+pub useful-one : (line : List ℕ) (w : Walker) (p q : ℕ) → UsefulPlace line w p → UsefulPlace line w q → p ≡ q
+useful-one line w p q a b = ordered (decLt p q) (decLt q p)
+  where
+    before : (m n : ℕ) → UsefulPlace line w m → UsefulPlace line w n → m < n → ⊥
+    before m n u v h = not-both (v .passed m (u .from) h) (u .stands (omega (arith, v .within)))
+    ordered : Dec (p < q) → Dec (q < p) → p ≡ q
+    ordered (yes h) k = absurd (before p q a b h)
+    ordered (no h) (yes k) = absurd (before q p b a k)
+    ordered (no h) (no k) = omega (arith, h, k)
+
+-- what holding comes to, step by step
+pub held-by : (line : List ℕ) (w : Walker) (l c : ℕ) → l ≡ min (w .limit) (length line) → c ≡ min (w .cursor) l
+    → _≡_ {A = Walker} (record { cursor = c; limit = l }) (held line w)
+unfolding held
+held-by line w l c p q = λ i. record { cursor = (q ∙ ap (min (w .cursor)) p) i; limit = p i }

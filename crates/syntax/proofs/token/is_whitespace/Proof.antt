@@ -1,0 +1,21 @@
+use mathlib.Core.Path.{ap, _∙_}
+use lib.Dec.{eqb}
+use Prim.Native.Nat.{ℕ, _/_}
+use Rattle.syntax.proofs.Bytes.{class-kind, kind-whitespace}
+use borrow.Author.Needs.{needs}
+use Rattle.syntax.proofs.token.is_whitespace.Statement.{statement}
+use Rattle.syntax.proofs.token.is_whitespace.Tie as tie
+use Rattle.syntax.proofs.token.is_whitespace.Reads as reads
+use Rattle.syntax.proofs.token.is_whitespace.Lts as lts
+use Rattle.syntax.proofs.token.class.Reads as class-reads
+
+-- src/token.rt:26:5
+class-requires : tie.Need-class-requires
+class-requires c κs = search needs
+
+-- src/token.rt:23:1
+returns : tie.Need-returns
+returns c = ap (λ (n : ℕ). eqb (n / 256) 1) (c .class .ensures) ∙ ap (λ (n : ℕ). eqb n 1) (class-kind _ (search needs)) ∙ kind-whitespace _
+
+pub is-whitespace-spec : {M : Type 1} → statement M
+is-whitespace-spec = tie.close (tie.spec class-requires returns)

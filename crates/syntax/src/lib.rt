@@ -1,0 +1,3 @@
+// The reading of a line's bytes, from `src/syntax` of the Rust: byte classes, the walker, the line's check.
+pub mod token;
+pub mod walker;
