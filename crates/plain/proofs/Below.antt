@@ -45,6 +45,10 @@ every-fails (suc n) f i l h =
       | no d ↦ and-false-left _ (f n) (every-fails n f i (omega (arith, d)) h)
     ]
 
+-- what holds below a number holds below a lesser one
+pub every-fewer : (m n : ℕ) (f : ℕ → Bool) → m ≤ n → everyBelow n f ≡ true → everyBelow m f ≡ true
+every-fewer m n f less h = every-all m f (λ i below. every-at n f h i (omega arith))
+
 pub every-same : (n : ℕ) (f g : ℕ → Bool) → ((i : ℕ) → i < n → f i ≡ g i) → everyBelow n f ≡ everyBelow n g
 unfolding everyBelow
 every-same zero f g h = refl

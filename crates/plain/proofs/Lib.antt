@@ -1,3 +1,5 @@
 pub mod Tests
 pub mod Below
 pub mod Lists
+pub mod Calls
+pub mod Answers

@@ -61,6 +61,7 @@ turn-grows x b s t e = go (isWanted x b s) (isStray b s) e
         let p : t ≡ takenIn b s = cc in
         subst (λ (u : Search). (u .parens ≤ s .parens + 1) × (u .braces ≤ s .braces + 1)) (sym p)
         (grown (eqb b 40) (eqb b 41) (s .parens), grown (eqb b 123) (eqb b 125) (s .braces))
+
     go : (w y : Bool) → Turn.On t ≡ select w Turn.Cut (select y Turn.Stray (Turn.On (takenIn b s)))
         → (t .parens ≤ s .parens + 1) × (t .braces ≤ s .braces + 1)
     go true y q = let z : _≡_ {A = ℕ} 0 1 = cc in absurd (omega arith)
@@ -137,7 +138,7 @@ module _ (line : List ℕ) (x : ℕ) (w : Walker) (within : Within line w) where
     parens = rw slice-empty (omega arith);
     braces = rw slice-empty (omega arith);
     unwanted = λ k h l. absurd (omega arith);
-    unended = λ k h l. absurd (omega arith)
+    unended = λ k h l. absurd (omega arith);
   }
 
   start-fresh : sofar c ≡ fresh
@@ -171,7 +172,7 @@ module _ (line : List ℕ) (x : ℕ) (w : Walker) (within : Within line w) where
         ∙ (λ j. record {
           seen = seen-more j;
           parens = nesting-more 40 41 (distinct 40 41 refl) bs b (s .parens) no-paren j;
-          braces = nesting-more 123 125 (distinct 123 125 refl) bs b (s .braces) no-brace j
+          braces = nesting-more 123 125 (distinct 123 125 refl) bs b (s .braces) no-brace j;
         })
 
     clear-more : isWanted x b (sofar i) ≡ false → Clear (suc i)
@@ -179,7 +180,7 @@ module _ (line : List ℕ) (x : ℕ) (w : Walker) (within : Within line w) where
       parens = subst (λ (cs : List ℕ). closes 40 41 (distinct 40 41 refl) cs ≤ opens 40 41 (distinct 40 41 refl) cs) (sym (more-bytes line c i from inside)) (even-more 40 41 (distinct 40 41 refl) bs b (s .parens) no-paren);
       braces = subst (λ (cs : List ℕ). closes 123 125 (distinct 123 125 refl) cs ≤ opens 123 125 (distinct 123 125 refl) cs) (sym (more-bytes line c i from inside)) (even-more 123 125 (distinct 123 125 refl) bs b (s .braces) no-brace);
       unwanted = λ k h l. elim (ℕ-discrete k i) [ yes e ↦ ap (λ n. isWanted x (byteAt line n) (sofar n)) e ∙ unwanted | no n ↦ s .unwanted k h (omega (arith, n)) ];
-      unended = λ k h l. elim (ℕ-discrete k i) [ yes e ↦ ap (λ n. isStray (byteAt line n) (sofar n)) e ∙ free | no n ↦ s .unended k h (omega (arith, n)) ]
+      unended = λ k h l. elim (ℕ-discrete k i) [ yes e ↦ ap (λ n. isStray (byteAt line n) (sofar n)) e ∙ free | no n ↦ s .unended k h (omega (arith, n)) ];
     }
 
   cut-here : (i : ℕ) → c ≤ i → i < w .limit → Clear i → isWanted x (byteAt line i) (sofar i) ≡ true → CutAt line x w i
@@ -217,6 +218,7 @@ module _ (line : List ℕ) (x : ℕ) (w : Walker) (within : Within line w) where
     where
       inside : i < length line
       inside = omega (arith, within .1)
+
       turned : {t : Turn} → turnOf x (byteAt line i) (sofar i) ≡ t
           → cutFrom line x i (w .limit) (sofar i) ≡ follow t i (λ n. cutFrom line x (suc i) (w .limit) n)
       turned q =
@@ -241,10 +243,10 @@ cut-one line x w p q a b = ordered (decLt p q) (decLt q p)
 
 -- so the search and the description are the same
 pub cut-at : (line : List ℕ) (x : ℕ) (w : Walker) → Within line w → (p : ℕ) → (cut line x w ≡ some p) ↔ CutAt line x w p
-cut-at line x w within p =
-    ( (λ e. subst (Cuts line x w) e (cut-is line x w within))
-    , (λ q. go (cut line x w) (cut-is line x w within) q)
-    )
+cut-at line x w within p = (
+  (λ e. subst (Cuts line x w) e (cut-is line x w within)),
+  (λ q. go (cut line x w) (cut-is line x w within) q),
+)
   where
     go : (o : Option ℕ) → Cuts line x w o → CutAt line x w p → o ≡ some p
     go none n q = absurd (n p q)

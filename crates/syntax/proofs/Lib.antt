@@ -3,3 +3,5 @@ pub mod Useful
 pub mod Moves
 pub mod Turns
 pub mod Cuts
+pub mod Lines
+pub mod Tight

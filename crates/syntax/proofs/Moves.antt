@@ -8,17 +8,20 @@ use lib.Dec.{leb, ltb}
 use borrow.Author.Tests.{lt-ltb, le-ltb, le-leb, lt-leb}
 use Rattle.plain.specs.Choice.{select}
 use Rattle.syntax.specs.Token.{isWhitespace, sameLetter}
-use Rattle.syntax.specs.Walker.{byteAt, over, usefulFrom, useful, past, expectChar, gap}
+use Rattle.syntax.specs.Walker.{byteAt, over, usefulFrom, useful, past, expectChar, gap, expectWhitespace}
 use Rattle.syntax.specs.declared.walker.Walker.{Walker}
 
 module _ (line : List ℕ) (v w : Walker) (held : v ≡ w) where
-  pub gap-end : v .limit ≤ v .cursor → true ≡ gap line w
-  unfolding gap over
-  gap-end h = sym (ap (λ (b : Bool). b || isWhitespace (byteAt line (v .cursor))) (le-leb (v .limit) (v .cursor) h)) ∙ ap (gap line) held
+  tested-gap : (t : Bool) → gap line v ≡ t → (t, v) ≡ expectWhitespace line w
+  tested-gap t e = ap (λ (b : Bool). (b, v)) (sym e) ∙ ap (expectWhitespace line) held
 
-  pub gap-byte : (r : Bool) → v .cursor < v .limit → r ≡ isWhitespace (byteAt line (v .cursor)) → r ≡ gap line w
+  pub gap-end : v .limit ≤ v .cursor → (true, v) ≡ expectWhitespace line w
   unfolding gap over
-  gap-byte r h e = e ∙ sym (ap (λ (b : Bool). b || isWhitespace (byteAt line (v .cursor))) (lt-leb (v .limit) (v .cursor) h)) ∙ ap (gap line) held
+  gap-end h = tested-gap true (ap (λ (b : Bool). b || isWhitespace (byteAt line (v .cursor))) (le-leb (v .limit) (v .cursor) h))
+
+  pub gap-byte : (t : Bool) → v .cursor < v .limit → isWhitespace (byteAt line (v .cursor)) ≡ t → (t, v) ≡ expectWhitespace line w
+  unfolding gap over
+  gap-byte t h e = tested-gap t (ap (λ (b : Bool). b || isWhitespace (byteAt line (v .cursor))) (lt-leb (v .limit) (v .cursor) h) ∙ e)
 
   module _ (x u : ℕ) (found : u ≡ usefulFrom line (v .cursor) (v .limit)) where
     judged : (t : Bool) → (ltb u (v .limit) && sameLetter (byteAt line u) x) ≡ t → select t (true, past u v) (false, v) ≡ expectChar line x w

@@ -40,7 +40,7 @@ module _ (line : List ℕ) (l : ℕ) (fits : l ≤ length line) where
     from = omega arith;
     within = omega arith;
     passed = λ i h k. absurd (omega arith);
-    stands = λ h. absurd (omega arith)
+    stands = λ h. absurd (omega arith);
   }
 
   place-here : (c : ℕ) → c < l → isWhitespace (byteAt line c) ≡ false → UsefulPlace line (at c) c
@@ -48,7 +48,7 @@ module _ (line : List ℕ) (l : ℕ) (fits : l ≤ length line) where
     from = omega arith;
     within = omega arith;
     passed = λ i p q. absurd (omega arith);
-    stands = λ q. e
+    stands = λ q. e;
   }
 
   place-later : (c p : ℕ) → isWhitespace (byteAt line c) ≡ true → UsefulPlace line (at (suc c)) p → UsefulPlace line (at c) p
@@ -56,7 +56,7 @@ module _ (line : List ℕ) (l : ℕ) (fits : l ≤ length line) where
     from = omega (arith, u .from);
     within = u .within;
     passed = λ i h k. elim (ℕ-discrete i c) [ yes q ↦ ap (λ n. isWhitespace (byteAt line n)) q ∙ e | no n ↦ u .passed i (omega (arith, n)) k ];
-    stands = u .stands
+    stands = u .stands;
   }
 
   -- from any place on, with so many bytes to go
@@ -103,6 +103,7 @@ useful-one line w p q a b = ordered (decLt p q) (decLt q p)
   where
     before : (m n : ℕ) → UsefulPlace line w m → UsefulPlace line w n → m < n → ⊥
     before m n u v h = not-both (v .passed m (u .from) h) (u .stands (omega (arith, v .within)))
+
     ordered : Dec (p < q) → Dec (q < p) → p ≡ q
     ordered (yes h) k = absurd (before p q a b h)
     ordered (no h) (yes k) = absurd (before q p b a k)

@@ -36,7 +36,7 @@ unfoldable pub passedTo : List ℕ → ℕ → ℕ → Search
 passedTo line c i = record {
   seen = some-of isSolid (slice c i line);
   parens = nesting 40 41 (slice c i line);
-  braces = nesting 123 125 (slice c i line)
+  braces = nesting 123 125 (slice c i line);
 }
 
 -- The cut, as document 01 says it: the first place from the cursor to the limit that holds the wanted byte, with no
@@ -58,7 +58,7 @@ unfoldable pub takenIn : ℕ → Search → Search
 takenIn b s = record {
   seen = s .seen || isSolid b;
   parens = select (eqb b 40) (s .parens + 1) (select (eqb b 41) (s .parens - 1) (s .parens));
-  braces = select (eqb b 123) (s .braces + 1) (select (eqb b 125) (s .braces - 1) (s .braces))
+  braces = select (eqb b 123) (s .braces + 1) (select (eqb b 125) (s .braces - 1) (s .braces));
 }
 
 unfoldable pub turnOf : ℕ → ℕ → Search → Turn

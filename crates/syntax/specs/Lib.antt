@@ -1,3 +1,4 @@
 pub mod Token
 pub mod Walker
 pub mod Cut
+pub mod Line

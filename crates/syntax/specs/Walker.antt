@@ -21,12 +21,16 @@ byteAt line i = getD line i 0
 unfoldable pub held : List ℕ → Walker → Walker
 held line w = record {
   cursor = min (w .cursor) (min (w .limit) (length line));
-  limit = min (w .limit) (length line)
+  limit = min (w .limit) (length line);
 }
 
 -- nothing is left before the limit
 unfoldable pub over : Walker → Bool
 over w = leb (w .limit) (w .cursor)
+
+-- the same place with another limit, held again
+unfoldable pub limited : List ℕ → ℕ → Walker → Walker
+limited line end w = held line (record { cursor = w .cursor; limit = end })
 
 -- The useful place, as document 01 says it: the first non-whitespace place at or after the cursor, or the limit.
 pub record UsefulPlace (line : List ℕ) (w : Walker) (p : ℕ) : Type 0 where
@@ -63,6 +67,9 @@ abbrev pub stepSays : Step → Bool × Walker
 stepSays (Past w) = (true, w)
 stepSays (Stayed w) = (false, w)
 
--- Whitespace part: succeeds at the limit or if the byte at the cursor is whitespace.
+-- Whitespace part: succeeds at the limit or if the byte at the cursor is whitespace. It consumes nothing.
 unfoldable pub gap : List ℕ → Walker → Bool
 gap line w = over w || isWhitespace (byteAt line (w .cursor))
+
+abbrev pub expectWhitespace : List ℕ → Walker → Bool × Walker
+expectWhitespace line w = (gap line w, w)

@@ -6,12 +6,15 @@ ghost use mathlib.Core.Path.{_≡_};
 ghost use mathlib.Core.Bool.{_||_};
 ghost use Prim.Native.Nat.{_+_, _<_, _≤_, _^_, min};
 ghost use lib.ListN.{length};
-ghost use Rattle.syntax.specs.Walker.{held, over, usefulFrom, useful, stepSays, expectChar, gap};
+ghost use Rattle.syntax.specs.Walker.{held, over, limited, usefulFrom, useful, stepSays, expectChar, expectWhitespace};
 ghost use Rattle.syntax.specs.Cut.{isSolid, isWanted, fresh, turnOf, cutSays, cutFrom, cut};
 
 const OPEN_PAREN: u8 = 40;
+
 const CLOSE_PAREN: u8 = 41;
+
 const OPEN_BRACE: u8 = 123;
+
 const CLOSE_BRACE: u8 = 125;
 
 pub struct Walker {
@@ -91,7 +94,7 @@ impl Walker {
 
     // The same place with another limit, held to the line.
     pub fn set_cursor_limit(self, line: &[u8], end: usize) -> Walker
-        ensures answers { λ r. ⌜ r ≡ held (now (line .entry)) (record { cursor = held (now (line .entry)) self .cursor; limit = end }) ⌝ }
+        ensures answers { λ r. ⌜ r ≡ limited (now (line .entry)) end (held (now (line .entry)) self) ⌝ }
     {
         let here = self.hold(line);
         let moved = Walker {
@@ -127,16 +130,21 @@ impl Walker {
         Step::Stayed(here)
     }
 
-    // The whitespace part's test: at the limit, or at a byte of whitespace. It consumes nothing.
-    pub fn is_at_gap(self, line: &[u8]) -> bool
-        ensures answers { λ r. ⌜ r ≡ gap (now (line .entry)) (held (now (line .entry)) self) ⌝ }
+    // The whitespace part's test: at the limit, or at a byte of whitespace. It consumes nothing, so the walker comes
+    // back where it stood.
+    pub fn maybe_expect_whitespace(self, line: &[u8]) -> Step
+        ensures answers { λ r. ⌜ stepSays r ≡ expectWhitespace (now (line .entry)) (held (now (line .entry)) self) ⌝ }
     {
         let here = self.hold(line);
         let at = here.cursor;
-        if here.limit <= at {
-            return true;
+        let limit = here.limit;
+        if limit <= at {
+            return Step::Past(here);
         }
-        token::is_whitespace(line[at])
+        if token::is_whitespace(line[at]) {
+            return Step::Past(Walker { cursor: at, limit });
+        }
+        Step::Stayed(here)
     }
 
     // The place of the cut for a lookahead character.
@@ -208,24 +216,44 @@ fn take_in(s: Search, b: u8, wanted: u8) -> Turn
     let parens = s.parens;
     let braces = s.braces;
     if b == OPEN_PAREN {
-        return Turn::On(Search { seen, parens: parens + 1, braces });
+        return Turn::On(Search {
+            seen,
+            parens: parens + 1,
+            braces,
+        });
     }
     if b == CLOSE_PAREN {
         if parens == 0 {
             return Turn::Stray;
         }
-        return Turn::On(Search { seen, parens: parens - 1, braces });
+        return Turn::On(Search {
+            seen,
+            parens: parens - 1,
+            braces,
+        });
     }
     if b == OPEN_BRACE {
-        return Turn::On(Search { seen, parens, braces: braces + 1 });
+        return Turn::On(Search {
+            seen,
+            parens,
+            braces: braces + 1,
+        });
     }
     if b == CLOSE_BRACE {
         if braces == 0 {
             return Turn::Stray;
         }
-        return Turn::On(Search { seen, parens, braces: braces - 1 });
+        return Turn::On(Search {
+            seen,
+            parens,
+            braces: braces - 1,
+        });
     }
-    Turn::On(Search { seen, parens, braces })
+    Turn::On(Search {
+        seen,
+        parens,
+        braces,
+    })
 }
 
 fn find_cut(line: &[u8], from: usize, end: usize, wanted: u8) -> Lookahead

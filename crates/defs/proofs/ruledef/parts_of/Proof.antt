@@ -1,0 +1,54 @@
+-- `ruleSpan`, with the words that were read.
+use Rattle.defs.proofs.Words.{span-whole, span-short}
+use borrow.Author.Needs.{needs}
+use Rattle.defs.proofs.ruledef.parts_of.Statement.{statement}
+use Rattle.defs.proofs.ruledef.parts_of.Tie as tie
+
+word-requires : tie.Need-word-requires
+word-requires c κs = search needs
+
+add-first : tie.Need-add-first
+add-first c = search needs
+
+word-requires-2 : tie.Need-word-requires-2
+word-requires-2 c κs = search needs
+
+mul-first : tie.Need-mul-first
+mul-first c = search needs
+
+add-first-2 : tie.Need-add-first-2
+add-first-2 c = search needs
+
+field-requires : tie.Need-field-requires
+field-requires c κs = search needs
+
+add-first-3 : tie.Need-add-first-3
+add-first-3 c = search needs
+
+field-requires-2 : tie.Need-field-requires-2
+field-requires-2 c κs = search needs
+
+add-end : tie.Need-add-end
+add-end c = search needs
+
+returns : tie.Need-returns
+returns c = span-whole _ _ _ _ _ _ (c .before .before .before .before .word .ensures .0) (c .before .before .before .word2 .ensures .0) (c .before .before .field .ensures .0) (c .before .field2 .ensures .0) (c .if1 .taken)
+
+returns-2 : tie.Need-returns-2
+returns-2 c = span-short _ _ _ _ _ _ (c .before .before .before .before .word .ensures .0) (c .before .before .before .word2 .ensures .0) (c .before .before .field .ensures .0) (c .before .field2 .ensures .0) (c .if1 .left)
+
+pub parts-of-spec : {M : Type 1} → statement M
+parts-of-spec =
+    tie.close
+    (tie.spec
+    word-requires
+    add-first
+    word-requires-2
+    mul-first
+    add-first-2
+    field-requires
+    add-first-3
+    field-requires-2
+    add-end
+    returns
+    returns-2)

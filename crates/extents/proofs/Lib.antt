@@ -1,0 +1,7 @@
+pub mod Size
+pub mod Places
+pub mod Rows
+pub mod Reading
+pub mod Unread
+pub mod Ends
+pub mod Tight

@@ -1,0 +1,150 @@
+// The extent sheet: for each start and limit in a line of n bytes, where the free parse of an expression and the greedy
+// decimal parse end. It is added by the port and carries over no Rust file: the Rust's expression parsers stand behind it.
+// `check_sheet` refuses a sheet of the wrong length or with a wrong entry (number 4); the readers answer on every input.
+ghost use mathlib.Core.Path.{_≡_};
+ghost use mathlib.Core.Bool.{true};
+ghost use Rattle.extents.specs.Sheet.{sized, Within, entryAt, entryFits, rowFits, halfFits, sheetFits};
+ghost use Rattle.extents.specs.Sheet.{entryEnd, endIn, freeEnd, greedyEnd, endOf};
+
+// An entry's byte that says: no expression here.
+const NONE: u8 = 255;
+
+// How many halves a sheet has.
+const HALVES: usize = 2;
+
+// No slice is as long as the sheet of a line of 2^31 bytes.
+const TOO_LONG: usize = 0x8000_0000;
+
+// The sheet's halves, in their order. Public, since the definitions and laws that other crates cite speak of it.
+pub enum Half {
+    Free,
+    Greedy,
+}
+
+// Where an expression ends, if there is one.
+pub enum Extent {
+    Ends(usize),
+    Nothing,
+}
+
+// Whether the sheet has the 2(n+1)² bytes of a line of n.
+fn is_sized(sheet: &[u8], n: usize) -> bool
+    ensures size { λ r. ⌜ r ≡ sized (now (sheet .entry)) n ⌝ }
+{
+    if n >= TOO_LONG {
+        return false;
+    }
+    let side = n + 1;
+    sheet.len() == HALVES * (side * side)
+}
+
+// The entry of a half for start c and limit l.
+fn entry(sheet: &[u8], n: usize, half: Half, c: usize, l: usize) -> u8
+    requires place { ⌜ Within (now sheet) n c l ⌝ }
+    ensures byte { λ r. ⌜ r ≡ entryAt (now (sheet .entry)) n half c l ⌝ }
+{
+    let side = n + 1;
+    let at = c * side + l;
+    match half {
+        Half::Free => sheet[at],
+        Half::Greedy => sheet[side * side + at],
+    }
+}
+
+// Whether an entry is 255, or from its start to its limit.
+fn entry_fits(c: usize, l: usize, e: u8) -> bool
+    ensures fits { λ r. ⌜ r ≡ entryFits c l e ⌝ }
+{
+    if e == NONE {
+        return true;
+    }
+    let end = e as usize;
+    if end < c {
+        return false;
+    }
+    end <= l
+}
+
+// Whether the entries of a half for start c fit, at every limit from c on.
+fn row_fits(sheet: &[u8], n: usize, half: Half, c: usize) -> bool
+    requires size { ⌜ sized (now sheet) n ≡ true ⌝ }
+    ensures fits { λ r. ⌜ r ≡ rowFits (now (sheet .entry)) n half c ⌝ }
+{
+    let mut l = c;
+    while l <= n {
+        if !entry_fits(c, l, entry(sheet, n, half, c, l)) {
+            return false;
+        }
+        l += 1;
+    }
+    true
+}
+
+// Whether the entries of a half fit, at every start.
+fn half_fits(sheet: &[u8], n: usize, half: Half) -> bool
+    requires size { ⌜ sized (now sheet) n ≡ true ⌝ }
+    ensures fits { λ r. ⌜ r ≡ halfFits (now (sheet .entry)) n half ⌝ }
+{
+    let mut c = 0;
+    while c <= n {
+        if !row_fits(sheet, n, half, c) {
+            return false;
+        }
+        c += 1;
+    }
+    true
+}
+
+// Whether the sheet is good for a line of n bytes: its length is 2(n+1)², and each entry whose start is not above its
+// limit is 255 or from start to limit.
+pub fn check_sheet(sheet: &[u8], n: usize) -> bool
+    ensures answers { λ r. ⌜ r ≡ sheetFits (now (sheet .entry)) n ⌝ }
+{
+    if !is_sized(sheet, n) {
+        return false;
+    }
+    if !half_fits(sheet, n, Half::Free) {
+        return false;
+    }
+    half_fits(sheet, n, Half::Greedy)
+}
+
+// The end that an entry gives: 255 for none.
+fn entry_end(byte: u8) -> Extent
+    ensures end { λ r. ⌜ endOf r ≡ entryEnd byte ⌝ }
+{
+    if byte == NONE {
+        return Extent::Nothing;
+    }
+    Extent::Ends(byte as usize)
+}
+
+// The end that a half has for start c and limit l.
+fn end_in(sheet: &[u8], n: usize, half: Half, c: usize, l: usize) -> Extent
+    ensures end { λ r. ⌜ endOf r ≡ endIn (now (sheet .entry)) n half c l ⌝ }
+{
+    if !is_sized(sheet, n) {
+        return Extent::Nothing;
+    }
+    if l < c {
+        return Extent::Nothing;
+    }
+    if n < l {
+        return Extent::Nothing;
+    }
+    entry_end(entry(sheet, n, half, c, l))
+}
+
+// free(c, l): where the free parse from c under the limit l ends.
+pub fn free(sheet: &[u8], n: usize, c: usize, l: usize) -> Extent
+    ensures answers { λ r. ⌜ endOf r ≡ freeEnd (now (sheet .entry)) n c l ⌝ }
+{
+    end_in(sheet, n, Half::Free, c, l)
+}
+
+// greedy(c, l): where the greedy decimal parse from c under the limit l ends.
+pub fn greedy(sheet: &[u8], n: usize, c: usize, l: usize) -> Extent
+    ensures answers { λ r. ⌜ endOf r ≡ greedyEnd (now (sheet .entry)) n c l ⌝ }
+{
+    end_in(sheet, n, Half::Greedy, c, l)
+}
