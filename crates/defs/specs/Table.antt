@@ -14,7 +14,7 @@ use Rattle.defs.specs.declared.ruledef.Parts.{Parts}
 use Rattle.defs.specs.declared.ruledef.Part.the-variants.{Exact, Whitespace, Expression, Nested}
 
 -- the word at a place
-abbrev pub wordAt : List ℕ → ℕ → ℕ
+unfoldable pub wordAt : List ℕ → ℕ → ℕ
 wordAt t i = getD t i 0
 
 -- S, R and P
@@ -80,8 +80,11 @@ isParameter (Nested r) = true
 -- ---- Acceptance, sentence by sentence
 
 -- S (1 to 32), R (0 to 512), P (0 to 8,192)
+unfoldable pub inRange : ℕ → ℕ → ℕ → Bool
+inRange s r p = leb 1 s && leb s 32 && leb r 512 && leb p 8192
+
 unfoldable pub sizesFit : List ℕ → Bool
-sizesFit t = leb 1 (rulesetsIn t) && leb (rulesetsIn t) 32 && leb (recordsIn t) 512 && leb (partsIn t) 8192
+sizesFit t = inRange (rulesetsIn t) (recordsIn t) (partsIn t)
 
 -- length is exactly 3 + S + 3R + P
 unfoldable pub lengthFits : List ℕ → Bool
@@ -133,4 +136,4 @@ unfoldable pub tableFits : List ℕ → Bool
 tableFits t =
     sizesFit t
     && (lengthFits t
-    && (flagsFit t && (rulesetsFit t && (rangesFit t && (countsFit t && (parametersFit t && partsFit t))))))
+    && (flagsFit t && (rulesetsFit t && ((rangesFit t && countsFit t) && (parametersFit t && partsFit t)))))

@@ -4,10 +4,9 @@
 ghost use mathlib.Core.Path.{_≡_};
 ghost use mathlib.Core.Bool.{true, _&&_};
 ghost use Prim.Native.Nat.{_+_, _≤_, _<_};
-ghost use lib.Dec.{leb};
 ghost use lib.ListN.{length};
 ghost use Rattle.defs.specs.Table.{wordAt, rulesetsIn, recordsIn, partsIn, partsFrom, fieldAt, rulesetAt, partOf, ruleSpan, parametersIn, isPart};
-ghost use Rattle.defs.specs.Table.{flagsFit, rulesetsFit, rangesFit, countsFit, parametersFit, partsFit, tableFits};
+ghost use Rattle.defs.specs.Table.{inRange, flagsFit, rulesetsFit, rangesFit, countsFit, parametersFit, partsFit, tableFits};
 ghost use Rattle.defs.specs.Ruledef.{isTop};
 
 // S, R and P stand first; then a flag for each ruleset, three words for each rule, a word for each part.
@@ -195,10 +194,11 @@ fn parameters_of(table: &[u16], rule: u16) -> usize
     let mut at = parts.at;
     let mut count: usize = 0;
     while at < end {
-        if WHITESPACE < word(table, at) {
+        let w = word(table, at);
+        at += 1;
+        if WHITESPACE < w {
             count += 1;
         }
-        at += 1;
     }
     count
 }
@@ -263,7 +263,7 @@ fn parts_fit(table: &[u16], sets: usize, from: usize, parts: usize) -> bool
 
 // Whether S, R and P are in range.
 fn sizes_fit(sets: usize, rules: usize, parts: usize) -> bool
-    ensures { λ r. ⌜ r ≡ (leb 1 sets && leb sets 32 && leb rules 512 && leb parts 8192) ⌝ }
+    ensures { λ r. ⌜ r ≡ inRange sets rules parts ⌝ }
 {
     if sets < 1 {
         return false;

@@ -29,6 +29,13 @@ pub and-false-right : (a b : Bool) → b ≡ false → (a && b) ≡ false
 and-false-right true b p = p
 and-false-right false b p = refl
 
+-- a conjunction judged part by part: a part that fails decides, and one that holds leaves the rest
+pub and-off : {a : Bool} (b : Bool) → a ≡ false → false ≡ (a && b)
+and-off {a} b p = sym (and-false-left a b p)
+
+pub and-on : {a b r : Bool} → a ≡ true → r ≡ b → r ≡ (a && b)
+and-on {a} {b} p q = q ∙ sym (ap (λ (x : Bool). x && b) p)
+
 pub and-rotate : (a b c d : Bool) → ((a && b) && (c && d)) ≡ ((a && c) && (b && d))
 and-rotate true true c d = refl
 and-rotate true false true d = refl

@@ -1,46 +1,48 @@
+-- The loop's invariant: every flag passed is 0 or 1.
+use borrow.Author.Needs.{needs}
+use mathlib.Core.Path.{_≡_}
+use mathlib.Core.Bool.{true}
+use Prim.Native.Nat.{_-_}
+use native.Mathlib.Omega.{arith}
+use lib.Dec.{leb}
+use Rattle.plain.specs.Below.{everyBelow}
+use Rattle.plain.proofs.Below.{every-none, every-step}
+use Rattle.defs.specs.Table.{flagAt, flagsFit}
+use Rattle.defs.proofs.Check.{all-passed, one-failed, flag-fits, flag-fails}
 use Rattle.defs.proofs.ruledef.flags_fit.Statement.{statement}
 use Rattle.defs.proofs.ruledef.flags_fit.Tie as tie
-use Rattle.defs.proofs.ruledef.flags_fit.Reads as reads
-use Rattle.defs.proofs.ruledef.flags_fit.Lts as lts
-use Rattle.defs.proofs.ruledef.word.Reads as word-reads
 
 abbrev Inv-loop : tie.InvT-loop
-Inv-loop table sets set₀ set = ?
+Inv-loop table sets set₀ set = everyBelow set (λ s. leb (flagAt table s) 1) ≡ true
 
 abbrev μ-loop : tie.MeasureT-loop
-μ-loop table sets set₀ set = ?
+μ-loop table sets set₀ set = sets - set
 
--- src/ruledef.rt:135:5
 loop-holds : tie.Need-loop-holds Inv-loop μ-loop
-loop-holds c = ?
+loop-holds c = every-none _
 
--- src/ruledef.rt:136:28
 add-word : tie.Need-add-word Inv-loop μ-loop
-add-word c = ?
+add-word c = search needs
 
--- src/ruledef.rt:136:16
 word-requires : tie.Need-word-requires Inv-loop μ-loop
-word-requires c κs = ?
+word-requires c κs = search needs
 
--- src/ruledef.rt:137:13
 returns : tie.Need-returns Inv-loop μ-loop
-returns c = ?
+unfolding flagsFit
+returns c = one-failed _ _ _ (omega arith) (flag-fails _ _ _ (c .before .word .ensures .0) (c .if1 .taken))
 
--- src/ruledef.rt:139:9
 add-set : tie.Need-add-set Inv-loop μ-loop
-add-set c = ?
+add-set c = search needs
 
--- src/ruledef.rt:135:5
 loop-less : tie.Need-loop-less Inv-loop μ-loop
-loop-less c = ?
+loop-less c = search needs
 
--- src/ruledef.rt:135:5
 loop-again : tie.Need-loop-again Inv-loop μ-loop
-loop-again c = ?
+loop-again c = every-step _ _ (c .before .before .before .loop .inv) (flag-fits _ _ _ (c .before .word .ensures .0) (c .if1 .left))
 
--- src/ruledef.rt:129:1
 returns-2 : tie.Need-returns-2 Inv-loop μ-loop
-returns-2 c = ?
+unfolding flagsFit
+returns-2 c = all-passed _ _ _ (omega arith) (c .before .loop .inv)
 
 pub flags-fit-spec : {M : Type 1} → statement M
 flags-fit-spec =

@@ -1,36 +1,29 @@
+-- `isPart`, by the tests in the order of the numbers.
+use Rattle.defs.proofs.Check.{part-low, part-printed, part-space, part-expr, part-between, part-ruleset}
 use borrow.Author.Needs.{needs}
 use Rattle.defs.proofs.ruledef.is_part.Statement.{statement}
 use Rattle.defs.proofs.ruledef.is_part.Tie as tie
-use Rattle.defs.proofs.ruledef.is_part.Reads as reads
-use Rattle.defs.proofs.ruledef.is_part.Lts as lts
 
--- src/ruledef.rt:228:9
 returns : tie.Need-returns
-returns c = ?
+returns c = part-low _ _ (c .if1 .taken)
 
--- src/ruledef.rt:231:9
 returns-2 : tie.Need-returns-2
-returns-2 c = ?
+returns-2 c = part-printed _ _ (c .before .if1 .left) (c .if2 .taken)
 
--- src/ruledef.rt:234:9
 returns-3 : tie.Need-returns-3
-returns-3 c = ?
+returns-3 c = part-space _ _ (c .if3 .taken)
 
--- src/ruledef.rt:237:9
 returns-4 : tie.Need-returns-4
-returns-4 c = ?
+returns-4 c = part-expr _ _ (c .if4 .taken)
 
--- src/ruledef.rt:240:9
 returns-5 : tie.Need-returns-5
-returns-5 c = ?
+returns-5 c = part-between _ _ (c .before .before .before .if2 .left) (c .before .before .if3 .left) (c .before .if4 .left) (c .if5 .taken)
 
--- src/ruledef.rt:242:12
 add-result : tie.Need-add-result
 add-result c = search needs
 
--- src/ruledef.rt:223:1
 returns-6 : tie.Need-returns-6
-returns-6 c = ?
+returns-6 c = part-ruleset _ _ (c .before .before .before .if2 .left) (c .before .before .if3 .left) (c .before .if4 .left) (c .if5 .left)
 
 pub is-part-spec : {M : Type 1} → statement M
 is-part-spec =

@@ -1,47 +1,49 @@
+-- The loop's invariant: the parameters counted and those still ahead are the rule's.
+use borrow.Author.Needs.{needs}
+use mathlib.Core.Path.{_≡_, sym, _∙_}
+use Prim.Native.Nat.{_+_, _-_, _≤_}
+use native.Mathlib.Omega.{arith}
+use lib.ListN.{length}
+use denote.Ref.{now}
+use Rattle.defs.proofs.Check.{parametersFrom, parameters-whole, parameters-none, parameter-here, parameter-other, span-within}
 use Rattle.defs.proofs.ruledef.parameters_of.Statement.{statement}
 use Rattle.defs.proofs.ruledef.parameters_of.Tie as tie
-use Rattle.defs.proofs.ruledef.parameters_of.Reads as reads
-use Rattle.defs.proofs.ruledef.parameters_of.Lts as lts
-use Rattle.defs.proofs.ruledef.parts_of.Reads as parts-of-reads
-use Rattle.defs.proofs.ruledef.word.Reads as word-reads
 
 abbrev Inv-loop : tie.InvT-loop
-Inv-loop table rule end at₀ count₀ at count = ?
+Inv-loop table rule end at₀ count₀ at count = (end ≤ length table) × ((count ≤ at) × (count + parametersFrom table at end ≡ parametersFrom table at₀ end))
 
 abbrev μ-loop : tie.MeasureT-loop
-μ-loop table rule end at₀ count₀ at count = ?
+μ-loop table rule end at₀ count₀ at count = end - at
 
--- src/ruledef.rt:193:9
 parts-of-requires : tie.Need-parts-of-requires Inv-loop μ-loop
-parts-of-requires c κs = ?
+parts-of-requires c κs = search needs
 
--- src/ruledef.rt:197:5
 loop-holds : tie.Need-loop-holds Inv-loop μ-loop
-loop-holds c = ?
+loop-holds c = (span-within _ _ _ (c .parts-of .ensures), (omega arith, omega arith))
 
--- src/ruledef.rt:198:25
 word-requires : tie.Need-word-requires Inv-loop μ-loop
-word-requires c κs = ?
+word-requires c κs = search needs
 
--- src/ruledef.rt:199:13
-add-count : tie.Need-add-count Inv-loop μ-loop
-add-count c = ?
-
--- src/ruledef.rt:201:9
 add-at : tie.Need-add-at Inv-loop μ-loop
-add-at c = ?
+add-at c = search needs
 
--- src/ruledef.rt:197:5
+add-count : tie.Need-add-count Inv-loop μ-loop
+add-count c = search needs
+
 loop-less : tie.Need-loop-less Inv-loop μ-loop
-loop-less c = ?
+loop-less c = search needs
 
--- src/ruledef.rt:197:5
 loop-again : tie.Need-loop-again Inv-loop μ-loop
-loop-again c = ?
+loop-again c = (omega arith, (omega arith, omega (arith, parameter-here (now (c .before .before .before .before .before .before .args .table)) (c .before .before .before .loop .at) (c .before .before .before .before .parts-of .result .end) (c .before .word .result) (c .before .before .loop-test .taken) (c .before .before .before .loop .inv .0) (c .before .word .ensures .0) (c .if1 .taken))))
 
--- src/ruledef.rt:190:1
+loop-less-2 : tie.Need-loop-less-2 Inv-loop μ-loop
+loop-less-2 c = search needs
+
+loop-again-2 : tie.Need-loop-again-2 Inv-loop μ-loop
+loop-again-2 c = (omega arith, (omega arith, omega (arith, parameter-other (now (c .before .before .before .before .before .before .args .table)) (c .before .before .before .loop .at) (c .before .before .before .before .parts-of .result .end) (c .before .word .result) (c .before .before .loop-test .taken) (c .before .before .before .loop .inv .0) (c .before .word .ensures .0) (c .if1 .left))))
+
 returns : tie.Need-returns Inv-loop μ-loop
-returns c = ?
+returns c = omega (arith, parameters-none (now (c .before .before .before .before .args .table)) (c .before .loop .at) (c .before .before .parts-of .result .end) (c .before .loop .inv .0) (c .loop-test .left), parameters-whole (now (c .before .before .before .before .args .table)) (c .before .before .before .before .args .rule) (c .before .before .parts-of .result) (c .before .before .parts-of .ensures))
 
 pub parameters-of-spec : {M : Type 1} → statement M
 parameters-of-spec =
@@ -52,8 +54,10 @@ parameters-of-spec =
     parts-of-requires
     loop-holds
     word-requires
-    add-count
     add-at
+    add-count
     loop-less
     loop-again
+    loop-less-2
+    loop-again-2
     returns)

@@ -1,51 +1,51 @@
+-- The loop's invariant: every word passed is a part.
+use borrow.Author.Needs.{needs}
+use mathlib.Core.Path.{_≡_, ap, ap₂, sym, _∙_}
+use mathlib.Core.Bool.{true}
+use Prim.Native.Nat.{_-_}
+use native.Mathlib.Omega.{arith}
+use Rattle.plain.specs.Below.{everyBelow}
+use Rattle.plain.proofs.Below.{every-none, every-step}
+use Rattle.plain.proofs.Calls.{refused, passed}
+use Rattle.defs.specs.Table.{rulesetsIn, partWordAt, isPart, partsFit}
+use Rattle.defs.proofs.Check.{all-passed, one-failed, part-tested}
 use Rattle.defs.proofs.ruledef.parts_fit.Statement.{statement}
 use Rattle.defs.proofs.ruledef.parts_fit.Tie as tie
-use Rattle.defs.proofs.ruledef.parts_fit.Reads as reads
-use Rattle.defs.proofs.ruledef.parts_fit.Lts as lts
-use Rattle.defs.proofs.ruledef.is_part.Reads as is-part-reads
-use Rattle.defs.proofs.ruledef.word.Reads as word-reads
 
 abbrev Inv-loop : tie.InvT-loop
-Inv-loop table sets from parts k₀ k = ?
+Inv-loop table sets from parts k₀ k = everyBelow k (λ j. isPart (rulesetsIn table) (partWordAt table j)) ≡ true
 
 abbrev μ-loop : tie.MeasureT-loop
-μ-loop table sets from parts k₀ k = ?
+μ-loop table sets from parts k₀ k = parts - k
 
--- src/ruledef.rt:255:5
 loop-holds : tie.Need-loop-holds Inv-loop μ-loop
-loop-holds c = ?
+loop-holds c = every-none _
 
--- src/ruledef.rt:256:33
 add-word : tie.Need-add-word Inv-loop μ-loop
-add-word c = ?
+add-word c = search needs
 
--- src/ruledef.rt:256:21
 word-requires : tie.Need-word-requires Inv-loop μ-loop
-word-requires c κs = ?
+word-requires c κs = search needs
 
--- src/ruledef.rt:256:13
 is-part-requires : tie.Need-is-part-requires Inv-loop μ-loop
-is-part-requires c κs = ?
+is-part-requires c κs = search needs
 
--- src/ruledef.rt:257:13
 returns : tie.Need-returns Inv-loop μ-loop
-returns c = ?
+unfolding partsFit
+returns c = one-failed _ _ _ (omega arith) (refused (part-tested _ _ _ _ _ _ (c .before .before .before .before .before .before .pre .0) (c .before .before .before .before .before .before .pre .1 .1 .0) (c .before .before .word .ensures .0) (c .before .is-part .ensures)) (c .if1 .taken))
 
--- src/ruledef.rt:259:9
 add-k : tie.Need-add-k Inv-loop μ-loop
-add-k c = ?
+add-k c = search needs
 
--- src/ruledef.rt:255:5
 loop-less : tie.Need-loop-less Inv-loop μ-loop
-loop-less c = ?
+loop-less c = search needs
 
--- src/ruledef.rt:255:5
 loop-again : tie.Need-loop-again Inv-loop μ-loop
-loop-again c = ?
+loop-again c = every-step _ _ (c .before .before .before .before .loop .inv) (passed (part-tested _ _ _ _ _ _ (c .before .before .before .before .before .before .pre .0) (c .before .before .before .before .before .before .pre .1 .1 .0) (c .before .before .word .ensures .0) (c .before .is-part .ensures)) (c .if1 .left))
 
--- src/ruledef.rt:246:1
 returns-2 : tie.Need-returns-2 Inv-loop μ-loop
-returns-2 c = ?
+unfolding partsFit
+returns-2 c = all-passed _ _ _ (omega arith) (c .before .loop .inv)
 
 pub parts-fit-spec : {M : Type 1} → statement M
 parts-fit-spec =

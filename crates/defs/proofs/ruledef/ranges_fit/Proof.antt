@@ -1,62 +1,60 @@
+-- The loop's invariant: every range passed fits, and `sum` is the sum of the counts passed.
+use borrow.Author.Needs.{needs}
+use mathlib.Core.Path.{_≡_, sym, ap₂, _∙_}
+use mathlib.Core.Bool.{true}
+use Prim.Native.Nat.{_+_, _-_, _*_, _≤_}
+use native.Mathlib.Omega.{arith}
+use Rattle.plain.specs.Below.{everyBelow, sumBelow}
+use Rattle.plain.proofs.Below.{every-none, every-step, sum-none, sum-more}
+use Rattle.defs.specs.Table.{countAt, rangeFits}
+use Rattle.defs.proofs.Check.{range-fits, range-past, range-long, ranges-fail, ranges-pass}
 use Rattle.defs.proofs.ruledef.ranges_fit.Statement.{statement}
 use Rattle.defs.proofs.ruledef.ranges_fit.Tie as tie
-use Rattle.defs.proofs.ruledef.ranges_fit.Reads as reads
-use Rattle.defs.proofs.ruledef.ranges_fit.Lts as lts
-use Rattle.defs.proofs.ruledef.field.Reads as field-reads
 
 abbrev Inv-loop : tie.InvT-loop
-Inv-loop table rules parts sum₀ rule₀ sum rule = ?
+Inv-loop table rules parts sum₀ rule₀ sum rule = (everyBelow rule (rangeFits table) ≡ true) × ((sum ≡ sumBelow rule (countAt table)) × ((sum ≤ 64 * rule) × (rule ≤ rules)))
 
 abbrev μ-loop : tie.MeasureT-loop
-μ-loop table rules parts sum₀ rule₀ sum rule = ?
+μ-loop table rules parts sum₀ rule₀ sum rule = rules - rule
 
--- src/ruledef.rt:176:5
 loop-holds : tie.Need-loop-holds Inv-loop μ-loop
-loop-holds c = ?
+loop-holds c = (every-none _, (sym (sum-none _), (omega arith, omega arith)))
 
--- src/ruledef.rt:176:12
 cast-loop : tie.Need-cast-loop Inv-loop μ-loop
-cast-loop c = ?
+cast-loop c = omega arith
 
--- src/ruledef.rt:177:13
 field-requires : tie.Need-field-requires Inv-loop μ-loop
-field-requires c κs = ?
+field-requires c κs = search needs
 
--- src/ruledef.rt:178:20
 field-requires-2 : tie.Need-field-requires-2 Inv-loop μ-loop
-field-requires-2 c κs = ?
+field-requires-2 c κs = search needs
 
--- src/ruledef.rt:178:20
 add-if1 : tie.Need-add-if1 Inv-loop μ-loop
-add-if1 c = ?
+add-if1 c = search needs
 
--- src/ruledef.rt:179:13
 returns : tie.Need-returns Inv-loop μ-loop
-returns c = ?
+returns c = ranges-fail _ _ (omega arith) (range-past _ _ _ _ _ (c .before .before .before .before .before .before .pre .1 .1) (c .before .field2 .ensures .0) (c .before .before .field .ensures .0) (c .if1 .taken))
 
--- src/ruledef.rt:182:13
 returns-2 : tie.Need-returns-2 Inv-loop μ-loop
-returns-2 c = ?
+returns-2 c = ranges-fail _ _ (omega arith) (range-long _ _ _ _ _ (c .before .before .before .before .before .before .before .pre .1 .1) (c .before .before .field2 .ensures .0) (c .before .before .before .field .ensures .0) (c .before .if1 .left) (c .if2 .taken))
 
--- src/ruledef.rt:184:9
 add-sum : tie.Need-add-sum Inv-loop μ-loop
-add-sum c = ?
+add-sum c = search needs
 
--- src/ruledef.rt:185:9
 add-rule : tie.Need-add-rule Inv-loop μ-loop
-add-rule c = ?
+add-rule c = search needs
 
--- src/ruledef.rt:176:5
 loop-less : tie.Need-loop-less Inv-loop μ-loop
-loop-less c = ?
+loop-less c = search needs
 
--- src/ruledef.rt:176:5
 loop-again : tie.Need-loop-again Inv-loop μ-loop
-loop-again c = ?
+loop-again c =
+    ( every-step _ _ (c .before .before .before .before .before .loop .inv .0) (range-fits _ _ _ _ _ (c .before .before .before .before .before .before .before .pre .1 .1) (c .before .before .field2 .ensures .0) (c .before .before .before .field .ensures .0) (c .before .if1 .left) (c .if2 .left))
+    , (ap₂ _+_ (c .before .before .before .before .before .loop .inv .1 .0) (c .before .before .before .field .ensures .0) ∙ sym (sum-more _ _), (omega arith, omega arith))
+    )
 
--- src/ruledef.rt:168:1
 returns-3 : tie.Need-returns-3 Inv-loop μ-loop
-returns-3 c = ?
+returns-3 c = ranges-pass _ _ _ _ (omega arith) (c .before .loop .inv .0) (c .before .loop .inv .1 .0) (c .before .before .before .pre .1 .1)
 
 pub ranges-fit-spec : {M : Type 1} → statement M
 ranges-fit-spec =

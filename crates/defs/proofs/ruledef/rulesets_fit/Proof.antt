@@ -1,50 +1,54 @@
+-- The loop's invariant: every record passed stands in order and below S, and `before` is the last one's ruleset.
+use borrow.Author.Needs.{needs}
+use mathlib.Core.Path.{_≡_}
+use mathlib.Core.Bool.{true}
+use Prim.Native.Nat.{_-_, _≤_}
+use native.Mathlib.Omega.{arith}
+use Rattle.plain.specs.Below.{everyBelow}
+use Rattle.plain.proofs.Below.{every-none, every-step}
+use Rattle.defs.specs.Table.{rulesetBefore, rulesetFits, rulesetsFit}
+use Rattle.defs.proofs.Check.{all-passed, one-failed, ruleset-fits, ruleset-past, ruleset-falls, before-next, before-first}
 use Rattle.defs.proofs.ruledef.rulesets_fit.Statement.{statement}
 use Rattle.defs.proofs.ruledef.rulesets_fit.Tie as tie
-use Rattle.defs.proofs.ruledef.rulesets_fit.Reads as reads
-use Rattle.defs.proofs.ruledef.rulesets_fit.Lts as lts
-use Rattle.defs.proofs.ruledef.field.Reads as field-reads
 
 abbrev Inv-loop : tie.InvT-loop
-Inv-loop table sets rules before₀ rule₀ before rule = ?
+Inv-loop table sets rules before₀ rule₀ before rule = (everyBelow rule (rulesetFits table) ≡ true) × ((before ≡ rulesetBefore table rule) × (rule ≤ 512))
 
 abbrev μ-loop : tie.MeasureT-loop
-μ-loop table sets rules before₀ rule₀ before rule = ?
+μ-loop table sets rules before₀ rule₀ before rule = rules - rule
 
--- src/ruledef.rt:153:5
 loop-holds : tie.Need-loop-holds Inv-loop μ-loop
-loop-holds c = ?
+loop-holds c = (every-none _, (before-first _, omega arith))
 
--- src/ruledef.rt:153:12
 cast-loop : tie.Need-cast-loop Inv-loop μ-loop
-cast-loop c = ?
+cast-loop c = omega arith
 
--- src/ruledef.rt:154:13
 field-requires : tie.Need-field-requires Inv-loop μ-loop
-field-requires c κs = ?
+field-requires c κs = search needs
 
--- src/ruledef.rt:156:13
 returns : tie.Need-returns Inv-loop μ-loop
-returns c = ?
+unfolding rulesetsFit
+returns c = one-failed _ _ _ (omega arith) (ruleset-past _ _ _ _ _ (c .before .before .before .before .before .pre .0) (c .before .before .before .loop .inv .1 .0) (c .before .field .ensures .0) (c .if1 .taken))
 
--- src/ruledef.rt:159:13
 returns-2 : tie.Need-returns-2 Inv-loop μ-loop
-returns-2 c = ?
+unfolding rulesetsFit
+returns-2 c = one-failed _ _ _ (omega arith) (ruleset-falls _ _ _ _ _ (c .before .before .before .before .before .before .pre .0) (c .before .before .before .before .loop .inv .1 .0) (c .before .before .field .ensures .0) (c .before .if1 .left) (c .if2 .taken))
 
--- src/ruledef.rt:162:9
 add-rule : tie.Need-add-rule Inv-loop μ-loop
-add-rule c = ?
+add-rule c = search needs
 
--- src/ruledef.rt:153:5
 loop-less : tie.Need-loop-less Inv-loop μ-loop
-loop-less c = ?
+loop-less c = search needs
 
--- src/ruledef.rt:153:5
 loop-again : tie.Need-loop-again Inv-loop μ-loop
-loop-again c = ?
+loop-again c =
+    ( every-step _ _ (c .before .before .before .before .loop .inv .0) (ruleset-fits _ _ _ _ _ (c .before .before .before .before .before .before .pre .0) (c .before .before .before .before .loop .inv .1 .0) (c .before .before .field .ensures .0) (c .before .if1 .left) (c .if2 .left))
+    , (before-next _ _ _ (c .before .before .field .ensures .0), omega arith)
+    )
 
--- src/ruledef.rt:145:1
 returns-3 : tie.Need-returns-3 Inv-loop μ-loop
-returns-3 c = ?
+unfolding rulesetsFit
+returns-3 c = all-passed _ _ _ (omega arith) (c .before .loop .inv .0)
 
 pub rulesets-fit-spec : {M : Type 1} → statement M
 rulesets-fit-spec =

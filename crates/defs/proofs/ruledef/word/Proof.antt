@@ -2,6 +2,8 @@
 use mathlib.Core.Path.{refl, sym}
 use native.Mathlib.Omega.{arith}
 use lib.ListN.{List·getD-eq-default}
+use Rattle.defs.specs.Table.{wordAt}
+use denote.Ref.{now}
 use borrow.Author.Needs.{needs}
 use Rattle.defs.proofs.ruledef.word.Statement.{statement}
 use Rattle.defs.proofs.ruledef.word.Tie as tie
@@ -16,10 +18,12 @@ cast-result : tie.Need-cast-result
 cast-result c = omega (arith, c .shared-slice-known .given (c .before .before .args .at))
 
 returns : tie.Need-returns
+unfolding wordAt
 returns c = (refl, omega (arith, c .shared-slice-known .given (c .before .before .args .at)))
 
 returns-2 : tie.Need-returns-2
-returns-2 c = (sym (List·getD-eq-default _ 0 (c .if1 .left)), omega arith)
+unfolding wordAt
+returns-2 c = (sym (List·getD-eq-default (now (c .before .args .table)) 0 (c .if1 .left)), omega arith)
 
 pub word-spec : {M : Type 1} → statement M
 word-spec = tie.close (tie.spec mul-result shared-slice-read-result cast-result returns returns-2)
