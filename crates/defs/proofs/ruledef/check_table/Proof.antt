@@ -1,11 +1,14 @@
--- `tableFits`, sentence by sentence: the first that fails decides.
+-- `tableFits`, sentence by sentence: the first that fails decides. Each helper stands at the place where a sentence has
+-- just held, and says what is left to judge.
 use borrow.Author.Needs.{needs}
-use mathlib.Core.Path.{_∙_}
+use mathlib.Core.Path.{_≡_, _∙_}
+use mathlib.Core.Bool.{Bool, _&&_}
 use native.Mathlib.Omega.{arith}
+use denote.Ref.{now}
 use Rattle.plain.proofs.Tests.{and-on, and-off}
 use Rattle.plain.proofs.Calls.{refused, passed}
-use Rattle.defs.specs.Table.{tableFits}
-use Rattle.defs.proofs.Check.{sizes-are, sizes-bound, length-fits, length-fails}
+use Rattle.defs.specs.Table.{rulesetsIn, recordsIn, partsIn, inRange, sizesFit, lengthFits, flagsFit, rulesetsFit, rangesFit, countsFit, parametersFit, tableFits}
+use Rattle.defs.proofs.Check.{Sizes, sizes-are, sizes-bound, length-fits, length-fails}
 use Rattle.defs.proofs.ruledef.check_table.Statement.{statement}
 use Rattle.defs.proofs.ruledef.check_table.Tie as tie
 
@@ -21,10 +24,19 @@ word-requires-3 c κs = search needs
 sizes-fit-requires : tie.Need-sizes-fit-requires
 sizes-fit-requires c κs = search needs
 
+-- the sizes that were judged are the table's
+judged : (c : tie.After-sizes-fit) → c .sizes-fit .result ≡ sizesFit (now (c .before .before .before .before .before .args .table))
+judged c = c .sizes-fit .ensures ∙ sizes-are _ _ _ _ (c .before .before .before .word .ensures .0) (c .before .before .word2 .ensures .0) (c .before .word3 .ensures .0)
+
 returns : tie.Need-returns
 unfolding tableFits
-returns c =
-    and-off _ (refused (c .before .sizes-fit .ensures ∙ sizes-are _ _ _ _ (c .before .before .before .before .word .ensures .0) (c .before .before .before .word2 .ensures .0) (c .before .before .word3 .ensures .0)) (c .if1 .taken))
+returns c = and-off _ (refused (judged (c .before)) (c .if1 .taken))
+
+sized : (c : tie.Else1) → Sizes (c .before .before .before .before .word .result) (c .before .before .before .word2 .result) (c .before .before .word3 .result)
+sized c = sizes-bound _ _ _ (passed (c .before .sizes-fit .ensures) (c .if1 .left))
+
+after-sizes : (c : tie.Else1) {r b : Bool} → r ≡ b → r ≡ (sizesFit (now (c .before .before .before .before .before .before .args .table)) && b)
+after-sizes c = and-on (passed (judged (c .before)) (c .if1 .left))
 
 add-from : tie.Need-add-from
 add-from c = search needs
@@ -41,61 +53,71 @@ add-if2 c = search needs
 returns-2 : tie.Need-returns-2
 unfolding tableFits
 returns-2 c =
-    and-on (passed (c .before .before .sizes-fit .ensures ∙ sizes-are _ _ _ _ (c .before .before .before .before .before .word .ensures .0) (c .before .before .before .before .word2 .ensures .0) (c .before .before .before .word3 .ensures .0)) (c .before .if1 .left))
-    (and-off _ (length-fails _ _ _ _ (c .before .before .before .before .before .word .ensures .0) (c .before .before .before .before .word2 .ensures .0) (c .before .before .before .word3 .ensures .0) (c .if2 .taken)))
+    let a = c .before .before .before in
+    after-sizes (c .before) (and-off _ (length-fails _ _ _ _ (a .before .before .word .ensures .0) (a .before .word2 .ensures .0) (a .word3 .ensures .0) (c .if2 .taken)))
+
+after-length : (c : tie.Else2) {r b : Bool} → r ≡ b
+    → let t = now (c .before .before .before .before .before .before .before .args .table) in r ≡ (sizesFit t && (lengthFits t && b))
+after-length c e =
+    let a = c .before .before .before in
+    after-sizes (c .before) (and-on (length-fits _ _ _ _ (a .before .before .word .ensures .0) (a .before .word2 .ensures .0) (a .word3 .ensures .0) (c .if2 .left)) e)
 
 flags-fit-requires : tie.Need-flags-fit-requires
-flags-fit-requires c κs = (c .before .before .before .before .before .word .ensures .0, sizes-bound _ _ _ (passed (c .before .before .sizes-fit .ensures) (c .before .if1 .left)) .sets)
+flags-fit-requires c κs = (c .before .before .before .before .before .word .ensures .0, sized (c .before) .sets)
 
 returns-3 : tie.Need-returns-3
 unfolding tableFits
-returns-3 c =
-    and-on (passed (c .before .before .before .before .sizes-fit .ensures ∙ sizes-are _ _ _ _ (c .before .before .before .before .before .before .before .word .ensures .0) (c .before .before .before .before .before .before .word2 .ensures .0) (c .before .before .before .before .before .word3 .ensures .0)) (c .before .before .before .if1 .left))
-    (and-on (length-fits _ _ _ _ (c .before .before .before .before .before .before .before .word .ensures .0) (c .before .before .before .before .before .before .word2 .ensures .0) (c .before .before .before .before .before .word3 .ensures .0) (c .before .before .if2 .left))
-    (and-off _ (refused (c .before .flags-fit .ensures) (c .if3 .taken))))
+returns-3 c = after-length (c .before .before) (and-off _ (refused (c .before .flags-fit .ensures) (c .if3 .taken)))
+
+after-flags : (c : tie.Else3) {r b : Bool} → r ≡ b
+    → let t = now (c .before .before .before .before .before .before .before .before .before .args .table) in r ≡ (sizesFit t && (lengthFits t && (flagsFit t && b)))
+after-flags c e = after-length (c .before .before) (and-on (passed (c .before .flags-fit .ensures) (c .if3 .left)) e)
 
 rulesets-fit-requires : tie.Need-rulesets-fit-requires
-rulesets-fit-requires c κs = (c .before .before .before .before .before .before .before .word .ensures .0, (c .before .before .before .before .before .before .word2 .ensures .0, sizes-bound _ _ _ (passed (c .before .before .before .before .sizes-fit .ensures) (c .before .before .before .if1 .left)) .rules))
+rulesets-fit-requires c κs =
+    let a = c .before .before .before in
+    (a .before .before .before .before .word .ensures .0, (a .before .before .before .word2 .ensures .0, sized a .rules))
 
 returns-4 : tie.Need-returns-4
 unfolding tableFits
-returns-4 c =
-    and-on (passed (c .before .before .before .before .before .before .sizes-fit .ensures ∙ sizes-are _ _ _ _ (c .before .before .before .before .before .before .before .before .before .word .ensures .0) (c .before .before .before .before .before .before .before .before .word2 .ensures .0) (c .before .before .before .before .before .before .before .word3 .ensures .0)) (c .before .before .before .before .before .if1 .left))
-    (and-on (length-fits _ _ _ _ (c .before .before .before .before .before .before .before .before .before .word .ensures .0) (c .before .before .before .before .before .before .before .before .word2 .ensures .0) (c .before .before .before .before .before .before .before .word3 .ensures .0) (c .before .before .before .before .if2 .left))
-    (and-on (passed (c .before .before .before .flags-fit .ensures) (c .before .before .if3 .left))
-    (and-off _ (refused (c .before .rulesets-fit .ensures) (c .if4 .taken)))))
+returns-4 c = after-flags (c .before .before) (and-off _ (refused (c .before .rulesets-fit .ensures) (c .if4 .taken)))
+
+after-rulesets : (c : tie.Else4) {r b : Bool} → r ≡ b
+    → let t = now (c .before .before .before .before .before .before .before .before .before .before .before .args .table) in
+    r ≡ (sizesFit t && (lengthFits t && (flagsFit t && (rulesetsFit t && b))))
+after-rulesets c e = after-flags (c .before .before) (and-on (passed (c .before .rulesets-fit .ensures) (c .if4 .left)) e)
 
 ranges-fit-requires : tie.Need-ranges-fit-requires
-ranges-fit-requires c κs = (c .before .before .before .before .before .before .before .before .word2 .ensures .0, (sizes-bound _ _ _ (passed (c .before .before .before .before .before .before .sizes-fit .ensures) (c .before .before .before .before .before .if1 .left)) .rules, c .before .before .before .before .before .before .before .word3 .ensures .0))
+ranges-fit-requires c κs =
+    let a = c .before .before .before .before .before in
+    (a .before .before .before .word2 .ensures .0, (sized a .rules, a .before .before .word3 .ensures .0))
 
 returns-5 : tie.Need-returns-5
 unfolding tableFits
-returns-5 c =
-    and-on (passed (c .before .before .before .before .before .before .before .before .sizes-fit .ensures ∙ sizes-are _ _ _ _ (c .before .before .before .before .before .before .before .before .before .before .before .word .ensures .0) (c .before .before .before .before .before .before .before .before .before .before .word2 .ensures .0) (c .before .before .before .before .before .before .before .before .before .word3 .ensures .0)) (c .before .before .before .before .before .before .before .if1 .left))
-    (and-on (length-fits _ _ _ _ (c .before .before .before .before .before .before .before .before .before .before .before .word .ensures .0) (c .before .before .before .before .before .before .before .before .before .before .word2 .ensures .0) (c .before .before .before .before .before .before .before .before .before .word3 .ensures .0) (c .before .before .before .before .before .before .if2 .left))
-    (and-on (passed (c .before .before .before .before .before .flags-fit .ensures) (c .before .before .before .before .if3 .left))
-    (and-on (passed (c .before .before .before .rulesets-fit .ensures) (c .before .before .if4 .left))
-    (and-off _ (refused (c .before .ranges-fit .ensures) (c .if5 .taken))))))
+returns-5 c = after-rulesets (c .before .before) (and-off _ (refused (c .before .ranges-fit .ensures) (c .if5 .taken)))
+
+after-ranges : (c : tie.Else5) {r b : Bool} → r ≡ b
+    → let t = now (c .before .before .before .before .before .before .before .before .before .before .before .before .before .args .table) in
+    r ≡ (sizesFit t && (lengthFits t && (flagsFit t && (rulesetsFit t && ((rangesFit t && countsFit t) && b)))))
+after-ranges c e = after-rulesets (c .before .before) (and-on (passed (c .before .ranges-fit .ensures) (c .if5 .left)) e)
 
 parameters-fit-requires : tie.Need-parameters-fit-requires
-parameters-fit-requires c κs = (c .before .before .before .before .before .before .before .before .before .before .word2 .ensures .0, sizes-bound _ _ _ (passed (c .before .before .before .before .before .before .before .before .sizes-fit .ensures) (c .before .before .before .before .before .before .before .if1 .left)) .rules)
+parameters-fit-requires c κs =
+    let a = c .before .before .before .before .before .before .before in
+    (a .before .before .before .word2 .ensures .0, sized a .rules)
 
 returns-6 : tie.Need-returns-6
 unfolding tableFits
-returns-6 c =
-    and-on (passed (c .before .before .before .before .before .before .before .before .before .before .sizes-fit .ensures ∙ sizes-are _ _ _ _ (c .before .before .before .before .before .before .before .before .before .before .before .before .before .word .ensures .0) (c .before .before .before .before .before .before .before .before .before .before .before .before .word2 .ensures .0) (c .before .before .before .before .before .before .before .before .before .before .before .word3 .ensures .0)) (c .before .before .before .before .before .before .before .before .before .if1 .left))
-    (and-on (length-fits _ _ _ _ (c .before .before .before .before .before .before .before .before .before .before .before .before .before .word .ensures .0) (c .before .before .before .before .before .before .before .before .before .before .before .before .word2 .ensures .0) (c .before .before .before .before .before .before .before .before .before .before .before .word3 .ensures .0) (c .before .before .before .before .before .before .before .before .if2 .left))
-    (and-on (passed (c .before .before .before .before .before .before .before .flags-fit .ensures) (c .before .before .before .before .before .before .if3 .left))
-    (and-on (passed (c .before .before .before .before .before .rulesets-fit .ensures) (c .before .before .before .before .if4 .left))
-    (and-on (passed (c .before .before .before .ranges-fit .ensures) (c .before .before .if5 .left))
-    (and-off _ (refused (c .before .parameters-fit .ensures) (c .if6 .taken)))))))
+returns-6 c = after-ranges (c .before .before) (and-off _ (refused (c .before .parameters-fit .ensures) (c .if6 .taken)))
 
 parts-fit-requires : tie.Need-parts-fit-requires
 parts-fit-requires c κs =
-    ( c .before .before .before .before .before .before .before .before .before .before .before .before .before .word .ensures .0
-    , ( sizes-bound _ _ _ (passed (c .before .before .before .before .before .before .before .before .before .before .sizes-fit .ensures) (c .before .before .before .before .before .before .before .before .before .if1 .left)) .sets
-    , ( omega (arith, c .before .before .before .before .before .before .before .before .before .before .before .before .before .word .ensures .0, c .before .before .before .before .before .before .before .before .before .before .before .before .word2 .ensures .0)
-    , (c .before .before .before .before .before .before .before .before .before .before .before .word3 .ensures .0, omega arith)
+    let a = c .before .before .before .before .before .before .before .before .before in
+    let words = a .before .before in
+    ( words .before .before .word .ensures .0
+    , ( sized a .sets
+    , ( omega (arith, words .before .before .word .ensures .0, words .before .word2 .ensures .0)
+    , (words .word3 .ensures .0, omega (arith, c .before .before .before .before .before .before .before .before .if2 .left))
     )
     )
     )
@@ -103,12 +125,7 @@ parts-fit-requires c κs =
 returns-7 : tie.Need-returns-7
 unfolding tableFits
 returns-7 c =
-    and-on (passed (c .before .before .before .before .before .before .before .before .before .before .before .sizes-fit .ensures ∙ sizes-are _ _ _ _ (c .before .before .before .before .before .before .before .before .before .before .before .before .before .before .word .ensures .0) (c .before .before .before .before .before .before .before .before .before .before .before .before .before .word2 .ensures .0) (c .before .before .before .before .before .before .before .before .before .before .before .before .word3 .ensures .0)) (c .before .before .before .before .before .before .before .before .before .before .if1 .left))
-    (and-on (length-fits _ _ _ _ (c .before .before .before .before .before .before .before .before .before .before .before .before .before .before .word .ensures .0) (c .before .before .before .before .before .before .before .before .before .before .before .before .before .word2 .ensures .0) (c .before .before .before .before .before .before .before .before .before .before .before .before .word3 .ensures .0) (c .before .before .before .before .before .before .before .before .before .if2 .left))
-    (and-on (passed (c .before .before .before .before .before .before .before .before .flags-fit .ensures) (c .before .before .before .before .before .before .before .if3 .left))
-    (and-on (passed (c .before .before .before .before .before .before .rulesets-fit .ensures) (c .before .before .before .before .before .if4 .left))
-    (and-on (passed (c .before .before .before .before .ranges-fit .ensures) (c .before .before .before .if5 .left))
-    (and-on (passed (c .before .before .parameters-fit .ensures) (c .before .if6 .left)) (c .parts-fit .ensures))))))
+    after-ranges (c .before .before .before) (and-on (passed (c .before .before .parameters-fit .ensures) (c .before .if6 .left)) (c .parts-fit .ensures))
 
 pub check-table-spec : {M : Type 1} → statement M
 check-table-spec =
