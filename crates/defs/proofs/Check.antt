@@ -232,5 +232,5 @@ sizes-bound s r p e =
     record {
       sets = leb-true s 32 (and-right (leb 1 s) (leb s 32) ab);
       rules = leb-true r 512 (and-right (leb 1 s && leb s 32) (leb r 512) abc);
-      parts = leb-true p 8192 (and-right (leb 1 s && leb s 32 && leb r 512) (leb p 8192) e)
+      parts = leb-true p 8192 (and-right (leb 1 s && leb s 32 && leb r 512) (leb p 8192) e);
     }

@@ -7,28 +7,42 @@ ghost use Prim.Native.Nat.{_+_, _≤_, _<_};
 ghost use lib.ListN.{length};
 ghost use Rattle.defs.specs.Table.{wordAt, rulesetsIn, recordsIn, partsIn, partsFrom, fieldAt, rulesetAt, partOf, ruleSpan, parametersIn, isPart};
 ghost use Rattle.defs.specs.Table.{inRange, flagsFit, rulesetsFit, rangesFit, countsFit, parametersFit, partsFit, tableFits};
-ghost use Rattle.defs.specs.Ruledef.{isTop};
+ghost use Rattle.plain.specs.Lists.{listed};
+ghost use Rattle.defs.specs.Ruledef.{isTop, startsOf, tallyOf, summedUp};
 
 // S, R and P stand first; then a flag for each ruleset, three words for each rule, a word for each part.
 const HEAD: usize = 3;
+
 const FIELDS: usize = 3;
+
 const RULESET: usize = 0;
+
 const FIRST: usize = 1;
+
 const COUNT: usize = 2;
 
 // Document 01's limits.
 const MOST_RULESETS: usize = 32;
+
 const MOST_RULES: usize = 512;
+
 const MOST_PARTS: usize = 8192;
+
 const MOST_PARTS_A_RULE: usize = 64;
+
 const MOST_PARAMETERS: usize = 8;
 
 // Part words: a byte, whitespace, an expression, or a ruleset from 512 on.
 const FIRST_PRINTED: usize = 33;
+
 const LAST_PRINTED: usize = 126;
+
 const SEMICOLON: usize = 59;
+
 const WHITESPACE: usize = 256;
+
 const EXPRESSION: usize = 257;
+
 const NESTED: usize = 512;
 
 // One place of a pattern.
@@ -60,7 +74,10 @@ fn field(table: &[u16], rule: u16, which: usize) -> usize
     ensures { λ r. ⌜ r ≡ fieldAt (now (table .entry)) rule which ⌝ }
     ensures { λ r. ⌜ r < 65536 ⌝ }
 {
-    word(table, HEAD + word(table, 0) + FIELDS * (rule as usize) + which)
+    word(
+        table,
+        HEAD + word(table, 0) + FIELDS * (rule as usize) + which,
+    )
 }
 
 // How many rulesets there are.
@@ -121,6 +138,47 @@ pub fn part_at(table: &[u16], at: usize) -> Part
         return Part::Expression;
     }
     Part::Nested(w - NESTED)
+}
+
+// ---- where each ruleset begins
+
+// At place s + 1, how many rules are of ruleset s.
+fn count_rules(table: &[u16], counts: &mut [u16])
+    requires { ⌜ now counts ≡ listed 33 (tallyOf (now table) 0) ⌝ }
+    ensures { λ _. ⌜ now (counts .exit) ≡ listed 33 (tallyOf (now (table .entry)) (recordsIn (now (table .entry)))) ⌝ }
+{
+    let rules = word(table, 1);
+    let mut rule: u16 = 0;
+    while (rule as usize) < rules {
+        let set = field(table, rule, RULESET);
+        rule += 1;
+        if set < MOST_RULESETS {
+            counts[set + 1] += 1;
+        }
+    }
+}
+
+// Each count becomes the sum of the counts up to it.
+fn sum_counts(counts: &mut [u16])
+    requires { ⌜ length (now counts) ≡ 33 ⌝ }
+    requires { ⌜ summedUp (now counts) 32 < 65536 ⌝ }
+    ensures { λ _. ⌜ now (counts .exit) ≡ listed 33 (summedUp (now (counts .entry))) ⌝ }
+{
+    let mut set = 0;
+    while set < MOST_RULESETS {
+        counts[set + 1] = counts[set] + counts[set + 1];
+        set += 1;
+    }
+}
+
+// For each ruleset s the place of its first rule, at s: the rules of s stand from there to the place at s + 1.
+pub fn ruleset_starts(table: &[u16]) -> [u16; 33]
+    ensures answers { λ r. ⌜ r ≡ startsOf (now (table .entry)) ⌝ }
+{
+    let mut starts = [0u16; 33];
+    count_rules(table, &mut starts);
+    sum_counts(&mut starts);
+    starts
 }
 
 // ---- the check

@@ -7,6 +7,8 @@ use Prim.Native.Nat.{ℕ, zero, suc, _+_, _≤_, _<_}
 use native.Mathlib.Numerals.{add-one}
 use native.Mathlib.Decide.{ℕ-discrete}
 use native.Mathlib.Omega.{arith}
+use lib.Dec.{eqb, ltb}
+use borrow.Author.Tests.{ltb-true, ltb-false, eqb-true, eqb-false, lt-ltb, le-ltb}
 use Rattle.plain.specs.Choice.{select}
 use Rattle.plain.specs.Below.{everyBelow, sumBelow, countBelow}
 use Rattle.plain.proofs.Tests.{and-left, and-right, and-both, and-false-left, and-false-right, and-rotate}
@@ -88,3 +90,36 @@ count-none f = refl
 pub count-more : (i : ℕ) (f : ℕ → Bool) → countBelow (i + 1) f ≡ countBelow i f + select (f i) 1 0
 unfolding countBelow
 count-more i f = rw add-one
+
+pub count-most : (n : ℕ) (f : ℕ → Bool) → countBelow n f ≤ n
+unfolding countBelow
+count-most zero f = omega arith
+count-most (suc n) f = go (f n) (count-most n f)
+  where
+    go : (b : Bool) → countBelow n f ≤ n → countBelow n f + select b 1 0 ≤ suc n
+    go true h = omega arith
+    go false h = omega arith
+
+pub count-all : (n : ℕ) (f : ℕ → Bool) → ((i : ℕ) → i < n → f i ≡ true) → countBelow n f ≡ n
+unfolding countBelow
+count-all zero f h = refl
+count-all (suc n) f h = rw (h n (omega arith)) (omega (arith, count-all n f (λ i l. h i (omega arith))))
+
+pub count-no : (n : ℕ) (f : ℕ → Bool) → ((i : ℕ) → i < n → f i ≡ false) → countBelow n f ≡ 0
+unfolding countBelow
+count-no zero f h = refl
+count-no (suc n) f h = rw (h n (omega arith)) (omega (arith, count-no n f (λ i l. h i (omega arith))))
+
+-- what is below j + 1 is below j, or j
+pub count-next : (n : ℕ) (f : ℕ → ℕ) (j : ℕ) → countBelow n (λ i. ltb (f i) (suc j)) ≡ countBelow n (λ i. ltb (f i) j) + countBelow n (λ i. eqb (f i) j)
+unfolding countBelow
+count-next zero f j = refl
+count-next (suc n) f j = go (ltb (f n) j) (eqb (f n) j) refl refl (count-next n f j)
+  where
+    go : (t u : Bool) → ltb (f n) j ≡ t → eqb (f n) j ≡ u
+        → countBelow n (λ i. ltb (f i) (suc j)) ≡ countBelow n (λ i. ltb (f i) j) + countBelow n (λ i. eqb (f i) j)
+        → countBelow n (λ i. ltb (f i) (suc j)) + select (ltb (f n) (suc j)) 1 0 ≡ countBelow n (λ i. ltb (f i) j) + select t 1 0 + (countBelow n (λ i. eqb (f i) j) + select u 1 0)
+    go true true p q h = absurd (omega (arith, ltb-true (f n) j p, eqb-true (f n) j q))
+    go true false p q h = rw (lt-ltb (f n) (suc j) (omega (arith, ltb-true (f n) j p))) (omega arith)
+    go false true p q h = rw (lt-ltb (f n) (suc j) (omega (arith, eqb-true (f n) j q))) (omega arith)
+    go false false p q h = rw (le-ltb (f n) (suc j) (omega (arith, ltb-false (f n) j p, eqb-false (f n) j q))) (omega arith)

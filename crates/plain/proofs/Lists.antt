@@ -1,13 +1,17 @@
 -- Laws of ranges and of the members that a test keeps. Each goes by induction on the list or on the range's length.
-use mathlib.Core.Path.{_≡_, refl, sym, ap, _∙_}
+use mathlib.Core.Path.{_≡_, refl, sym, ap, ap₂, _∙_}
 use mathlib.Core.Bool.{Bool, true, false, _||_}
 use mathlib.Core.List.{List, [], _∷_, _++_, map}
 use Prim.Native.Nat.{ℕ, zero, suc, _+_, _≤_, _<_}
-use native.Mathlib.Nat.{add-zero, add-suc, suc-add}
+use native.Mathlib.Nat.{add-zero, zero-add, add-suc, suc-add}
+use native.Mathlib.Numerals.{add-one}
+use native.Mathlib.Decide.{ℕ-discrete}
 use native.Mathlib.Omega.{arith}
-use lib.ListN.{length, getD}
+use lib.ListN.{length, getD, set, length-map, length-set, length-append}
+use lib.Seq.{ext-getD, getD-set-same, getD-set-other}
 use Rattle.plain.specs.Choice.{select}
-use Rattle.plain.specs.Lists.{range, keepIf, some-of, count}
+use Rattle.plain.specs.Below.{countBelow}
+use Rattle.plain.specs.Lists.{range, keepIf, some-of, count, listed}
 
 pub range-length : (a n : ℕ) → length (range a n) ≡ n
 unfolding range
@@ -58,3 +62,65 @@ module _ {A : Type 0} (f : A → Bool) where
           → select b (suc (count f (xs ++ ys))) (count f (xs ++ ys)) ≡ select b (suc (count f xs)) (count f xs) + count f ys
       go true h = omega arith
       go false h = h
+
+module _ {A : Type 0} where
+  pub listed-length : (n : ℕ) (f : ℕ → A) → length (listed n f) ≡ n
+  unfolding listed
+  listed-length n f = length-map (range 0 n) f ∙ range-length 0 n
+
+  pub listed-same : (n : ℕ) (f g : ℕ → A) → ((i : ℕ) → i < n → f i ≡ g i) → listed n f ≡ listed n g
+  unfolding listed range
+  listed-same n f g h = from 0 n (λ i l. h i (omega arith))
+    where
+      from : (a k : ℕ) → ((i : ℕ) → i < a + k → f i ≡ g i) → map f (range a k) ≡ map g (range a k)
+      from a zero e = refl
+      from a (suc k) e = ap₂ _∷_ (e a (omega arith)) (from (suc a) k (λ i l. e i (omega arith)))
+
+pub listed-at : (n : ℕ) (f : ℕ → ℕ) (i : ℕ) → i < n → getD (listed n f) i 0 ≡ f i
+unfolding listed
+listed-at n f i h = within (range 0 n) i (omega (arith, range-length 0 n)) ∙ ap f (range-at 0 n i 0 h ∙ zero-add i)
+  where
+    within : (l : List ℕ) (k : ℕ) → k < length l → getD (map f l) k 0 ≡ f (getD l k 0)
+    within [] k l = absurd (omega arith)
+    within (x ∷ xs) zero l = refl
+    within (x ∷ xs) (suc k) l = within xs k (omega arith)
+
+-- a list by its entries
+pub as-listed : (n : ℕ) (f : ℕ → ℕ) (xs : List ℕ) → length xs ≡ n → ((i : ℕ) → i < n → getD xs i 0 ≡ f i) → xs ≡ listed n f
+as-listed n f xs e h =
+    ext-getD 0 xs (listed n f) (e ∙ sym (listed-length n f)) (λ i l. h i (omega arith) ∙ sym (listed-at n f i (omega arith)))
+
+-- one entry replaced
+pub listed-set : (n : ℕ) (f g : ℕ → ℕ) (k v : ℕ) → k < n → g k ≡ v → ((i : ℕ) → i < n → (i ≡ k → ⊥) → g i ≡ f i) → set (listed n f) k v ≡ listed n g
+listed-set n f g k v h e same =
+    ext-getD 0 (set (listed n f) k v) (listed n g) (length-set (listed n f) k v ∙ listed-length n f ∙ sym (listed-length n g))
+    (λ i l. at i (omega (arith, l, length-set (listed n f) k v, listed-length n f)) (ℕ-discrete i k))
+  where
+    at : (i : ℕ) → i < n → Dec (i ≡ k) → getD (set (listed n f) k v) i 0 ≡ getD (listed n g) i 0
+    at i l (yes q) =
+        ap (λ (m : ℕ). getD (set (listed n f) k v) m 0) q ∙ getD-set-same (listed n f) k v 0 (omega (arith, listed-length n f)) ∙ sym e
+        ∙ sym (listed-at n g k h) ∙ ap (λ (m : ℕ). getD (listed n g) m 0) (sym q)
+    at i l (no d) = getD-set-other (listed n f) k i v 0 d ∙ listed-at n f i l ∙ sym (same i l d) ∙ sym (listed-at n g i l)
+
+-- how many numbers below n a test keeps
+pub kept-length : (n : ℕ) (f : ℕ → Bool) → length (keepIf f (range 0 n)) ≡ countBelow n f
+unfolding countBelow keepIf range
+kept-length zero f = refl
+kept-length (suc n) f =
+    ap (λ (l : List ℕ). length (keepIf f l)) (range-more 0 n)
+    ∙ ap length (keepIf-append f (range 0 n) ((0 + n) ∷ []))
+    ∙ length-append (keepIf f (range 0 n)) (keepIf f ((0 + n) ∷ []))
+    ∙ ap₂ _+_ (kept-length n f) (ap (λ (m : ℕ). length (keepIf f (m ∷ []))) (zero-add n) ∙ one (f n))
+  where
+    one : (b : Bool) → length (select b (n ∷ []) []) ≡ select b 1 0
+    one true = refl
+    one false = refl
+
+-- the numbers kept, one more tried
+pub kept-more : (n : ℕ) (f : ℕ → Bool) → keepIf f (range 0 (n + 1)) ≡ keepIf f (range 0 n) ++ select (f n) (n ∷ []) []
+unfolding keepIf
+kept-more n f =
+    ap (λ (m : ℕ). keepIf f (range 0 m)) (add-one n)
+    ∙ ap (keepIf f) (range-more 0 n)
+    ∙ keepIf-append f (range 0 n) ((0 + n) ∷ [])
+    ∙ ap (λ (m : ℕ). keepIf f (range 0 n) ++ keepIf f (m ∷ [])) (zero-add n)

@@ -1,6 +1,6 @@
 -- Lists: the numbers from one on, and the members of which a test holds.
 use mathlib.Core.Bool.{Bool, true, false, _&&_, _||_}
-use mathlib.Core.List.{List, [], _∷_}
+use mathlib.Core.List.{List, [], _∷_, map}
 use Prim.Native.Nat.{ℕ, zero, suc}
 use Rattle.plain.specs.Choice.{select}
 
@@ -24,3 +24,7 @@ module _ {A : Type 0} (f : A → Bool) where
   unfoldable pub count : List A → ℕ
   count [] = 0
   count (x ∷ xs) = select (f x) (suc (count xs)) (count xs)
+
+-- f at the numbers below n, in order
+unfoldable pub listed : {A : Type 0} → ℕ → (ℕ → A) → List A
+listed n f = map f (range 0 n)

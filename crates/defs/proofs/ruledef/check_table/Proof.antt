@@ -113,13 +113,15 @@ returns-6 c = after-ranges (c .before .before) (and-off _ (refused (c .before .p
 parts-fit-requires : tie.Need-parts-fit-requires
 parts-fit-requires c κs =
     let a = c .before .before .before .before .before .before .before .before .before in
-    let words = a .before .before in
-    ( words .before .before .word .ensures .0
-    , ( sized a .sets
-    , ( omega (arith, words .before .before .word .ensures .0, words .before .word2 .ensures .0)
-    , (words .word3 .ensures .0, omega (arith, c .before .before .before .before .before .before .before .before .if2 .left))
-    )
-    )
+    let words = a .before .before in (
+      words .before .before .word .ensures .0,
+      (
+        sized a .sets,
+        (
+          omega (arith, words .before .before .word .ensures .0, words .before .word2 .ensures .0),
+          (words .word3 .ensures .0, omega (arith, c .before .before .before .before .before .before .before .before .if2 .left)),
+        ),
+      ),
     )
 
 returns-7 : tie.Need-returns-7

@@ -27,10 +27,10 @@ word-requires-2 c κs = search needs
 
 returns : tie.Need-returns
 unfolding fieldAt
-returns c =
-    ( c .word2 .ensures .0 ∙ ap (λ (s : ℕ). wordAt (now (c .before .before .before .args .table)) (3 + s + 3 * c .before .before .before .args .rule + c .before .before .before .args .which)) (c .before .word .ensures .0)
-    , c .word2 .ensures .1
-    )
+returns c = (
+  c .word2 .ensures .0 ∙ ap (λ (s : ℕ). wordAt (now (c .before .before .before .args .table)) (3 + s + 3 * c .before .before .before .args .rule + c .before .before .before .args .which)) (c .before .word .ensures .0),
+  c .word2 .ensures .1,
+)
 
 pub field-spec : {M : Type 1} → statement M
 field-spec =

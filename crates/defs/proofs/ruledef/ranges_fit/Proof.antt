@@ -48,10 +48,10 @@ loop-less : tie.Need-loop-less Inv-loop μ-loop
 loop-less c = search needs
 
 loop-again : tie.Need-loop-again Inv-loop μ-loop
-loop-again c =
-    ( every-step _ _ (c .before .before .before .before .before .loop .inv .0) (range-fits _ _ _ _ _ (c .before .before .before .before .before .before .before .pre .1 .1) (c .before .before .field2 .ensures .0) (c .before .before .before .field .ensures .0) (c .before .if1 .left) (c .if2 .left))
-    , (ap₂ _+_ (c .before .before .before .before .before .loop .inv .1 .0) (c .before .before .before .field .ensures .0) ∙ sym (sum-more _ _), (omega arith, omega arith))
-    )
+loop-again c = (
+  every-step _ _ (c .before .before .before .before .before .loop .inv .0) (range-fits _ _ _ _ _ (c .before .before .before .before .before .before .before .pre .1 .1) (c .before .before .field2 .ensures .0) (c .before .before .before .field .ensures .0) (c .before .if1 .left) (c .if2 .left)),
+  (ap₂ _+_ (c .before .before .before .before .before .loop .inv .1 .0) (c .before .before .before .field .ensures .0) ∙ sym (sum-more _ _), (omega arith, omega arith)),
+)
 
 returns-3 : tie.Need-returns-3 Inv-loop μ-loop
 returns-3 c = ranges-pass _ _ _ _ (omega arith) (c .before .loop .inv .0) (c .before .loop .inv .1 .0) (c .before .before .before .pre .1 .1)

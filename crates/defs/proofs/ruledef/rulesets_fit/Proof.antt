@@ -41,10 +41,10 @@ loop-less : tie.Need-loop-less Inv-loop μ-loop
 loop-less c = search needs
 
 loop-again : tie.Need-loop-again Inv-loop μ-loop
-loop-again c =
-    ( every-step _ _ (c .before .before .before .before .loop .inv .0) (ruleset-fits _ _ _ _ _ (c .before .before .before .before .before .before .pre .0) (c .before .before .before .before .loop .inv .1 .0) (c .before .before .field .ensures .0) (c .before .if1 .left) (c .if2 .left))
-    , (before-next _ _ _ (c .before .before .field .ensures .0), omega arith)
-    )
+loop-again c = (
+  every-step _ _ (c .before .before .before .before .loop .inv .0) (ruleset-fits _ _ _ _ _ (c .before .before .before .before .before .before .pre .0) (c .before .before .before .before .loop .inv .1 .0) (c .before .before .field .ensures .0) (c .before .if1 .left) (c .if2 .left)),
+  (before-next _ _ _ (c .before .before .field .ensures .0), omega arith),
+)
 
 returns-3 : tie.Need-returns-3 Inv-loop μ-loop
 unfolding rulesetsFit

@@ -50,13 +50,15 @@ loop-less c = search needs
 loop-again : tie.Need-loop-again Inv-loop μ-loop
 loop-again c =
     let on = sym (c .before .next .given .1) ∙ c .before .before .before .take-in .ensures in
-    let grows = turn-grows _ _ _ _ on in
-    ( omega arith
-    , ( omega arith
-    , ( sym (cut-step _ _ _ (c .before .before .before .before .before .before .before .before .pre .1) _ _ (Turn.On (c .before .next .given .0 .0)) (c .before .before .before .before .before .loop-test .taken) on) ∙ c .before .before .before .before .before .before .loop .inv .1 .1 .0
-    , (omega (arith, grows .0), omega (arith, grows .1))
-    )
-    )
+    let grows = turn-grows _ _ _ _ on in (
+      omega arith,
+      (
+        omega arith,
+        (
+          sym (cut-step _ _ _ (c .before .before .before .before .before .before .before .before .pre .1) _ _ (Turn.On (c .before .next .given .0 .0)) (c .before .before .before .before .before .loop-test .taken) on) ∙ c .before .before .before .before .before .before .loop .inv .1 .1 .0,
+          (omega (arith, grows .0), omega (arith, grows .1)),
+        ),
+      ),
     )
 
 returns-3 : tie.Need-returns-3 Inv-loop μ-loop

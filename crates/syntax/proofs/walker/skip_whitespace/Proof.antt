@@ -26,10 +26,10 @@ is-whitespace-requires : tie.Need-is-whitespace-requires Inv-loop μ-loop
 is-whitespace-requires c κs = search needs
 
 returns : tie.Need-returns Inv-loop μ-loop
-returns c =
-    ( sym (useful-here _ _ (search needs) _ (c .before .before .before .loop-test .taken) (sym (c .before .is-whitespace .ensures) ∙ not-true _ (c .if1 .taken))) ∙ c .before .before .before .before .loop .inv .1
-    , omega arith
-    )
+returns c = (
+  sym (useful-here _ _ (search needs) _ (c .before .before .before .loop-test .taken) (sym (c .before .is-whitespace .ensures) ∙ not-true _ (c .if1 .taken))) ∙ c .before .before .before .before .loop .inv .1,
+  omega arith,
+)
 
 add-at : tie.Need-add-at Inv-loop μ-loop
 add-at c = search needs
@@ -38,16 +38,16 @@ loop-less : tie.Need-loop-less Inv-loop μ-loop
 loop-less c = search needs
 
 loop-again : tie.Need-loop-again Inv-loop μ-loop
-loop-again c =
-    ( omega arith
-    , useful-later _ _ (search needs) _ (c .before .before .before .loop-test .taken) (sym (c .before .is-whitespace .ensures) ∙ not-false _ (c .if1 .left)) ∙ c .before .before .before .before .loop .inv .1
-    )
+loop-again c = (
+  omega arith,
+  useful-later _ _ (search needs) _ (c .before .before .before .loop-test .taken) (sym (c .before .is-whitespace .ensures) ∙ not-false _ (c .if1 .left)) ∙ c .before .before .before .before .loop .inv .1,
+)
 
 returns-2 : tie.Need-returns-2 Inv-loop μ-loop
 returns-2 c =
-    let here : c .before .before .before .args .end ≡ c .before .loop .at = omega arith in
-    ( sym here ∙ sym (useful-end _ _ (search needs)) ∙ ap (λ (n : ℕ). usefulFrom (now (c .before .before .before .args .line)) n (c .before .before .before .args .end)) here ∙ c .before .loop .inv .1
-    , omega arith
+    let here : c .before .before .before .args .end ≡ c .before .loop .at = omega arith in (
+      sym here ∙ sym (useful-end _ _ (search needs)) ∙ ap (λ (n : ℕ). usefulFrom (now (c .before .before .before .args .line)) n (c .before .before .before .args .end)) here ∙ c .before .loop .inv .1,
+      omega arith,
     )
 
 pub skip-whitespace-spec : {M : Type 1} → statement M
