@@ -1,24 +1,23 @@
 -- The table's check: each sentence's test, as the code makes it, and the loops that make it of every record or word.
 use mathlib.Core.Path.{_≡_, refl, sym, ap, ap₂, _∙_, subst}
 use mathlib.Core.Bool.{Bool, true, false, not, _&&_, _||_, or-false}
-use mathlib.Core.List.{List, [], _∷_, map}
+use mathlib.Core.List.{List}
 use Prim.Native.Nat.{ℕ, zero, suc, _+_, _*_, _-_, _≤_, _<_, min}
 use native.Mathlib.Numerals.{add-one}
-use native.Mathlib.Decide.{decLe}
 use native.Mathlib.Omega.{arith}
 use lib.Dec.{eqb, leb, ltb}
-use lib.ListN.{length, getD, take, drop, drop-of-length-le}
-use lib.Seq.{slice, slice-cons, take-all, length-take-le}
+use lib.ListN.{length}
 use borrow.Author.Tests.{ltb-true, ltb-false, leb-true, eqb-true, eqb-false, lt-ltb, le-ltb, le-leb, lt-leb, eq-eqb, ne-eqb}
 use Rattle.plain.specs.Choice.{select}
 use Rattle.plain.specs.Below.{everyBelow, sumBelow}
 use Rattle.plain.specs.Lists.{count}
 use Rattle.plain.proofs.Tests.{and-left, and-right, and-both}
 use Rattle.plain.proofs.Below.{every-fewer, every-fails}
-use Rattle.defs.specs.Table.{wordAt, rulesetsIn, recordsIn, partsIn, partsFrom, flagAt, fieldAt, rulesetAt, firstAt, countAt, partWordAt, partOf, ruleFrom, ruleWords, ruleSpan, ruleParts, isParameter}
+use Rattle.defs.specs.Table.{wordAt, rulesetsIn, recordsIn, partsIn, partsFrom, flagAt, fieldAt, rulesetAt, firstAt, countAt, partWordAt, partOf, ruleSpan, partsBetween, isParameter}
 use Rattle.defs.specs.Table.{inRange, sizesFit, lengthFits, flagsFit, rulesetBefore, rulesetFits, rulesetsFit, rangeFits, rangesFit, countsFit, parametersIn, parametersFit, isPart, partsFit, tableFits}
 use Rattle.defs.specs.declared.ruledef.Part.{Part}
 use Rattle.defs.specs.declared.ruledef.Parts.{Parts}
+use Rattle.defs.proofs.Words.{parts-whole, parts-none, parts-next}
 use Rattle.defs.specs.declared.ruledef.Part.the-variants.{Exact, Whitespace, Expression, Nested}
 
 -- a loop that has passed every number, and one that met a number of which the test fails
@@ -104,54 +103,30 @@ parameter-word w = go (ltb w 256) (eqb w 256) (ltb w 512) refl refl
     go false false true p q = sym (lt-ltb 256 w (omega (arith, ltb-false w 256 p, eqb-false w 256 q)))
     go false false false p q = sym (lt-ltb 256 w (omega (arith, ltb-false w 256 p, eqb-false w 256 q)))
 
-take-within : (n : ℕ) (l : List ℕ) → take (min n (length l)) l ≡ take n l
-take-within n l = go (decLe n (length l))
-  where
-    go : Dec (n ≤ length l) → take (min n (length l)) l ≡ take n l
-    go (yes h) = let e : min n (length l) ≡ n = omega arith in ap (λ (m : ℕ). take m l) e
-    go (no h) =
-        let e : min n (length l) ≡ length l = omega (arith, h) in
-        ap (λ (m : ℕ). take m l) e ∙ take-all (length l) l (omega arith) ∙ sym (take-all n l (omega (arith, h)))
-
--- the words from where a rule's parts begin to where they end are the rule's words
-pub span-words : (t : List ℕ) (i : ℕ) → slice (ruleSpan t i .at) (ruleSpan t i .end) t ≡ ruleWords t i
-unfolding ruleSpan ruleWords
-span-words t i = ap (λ (l : List ℕ). drop (ruleFrom t i) l) (take-within (ruleFrom t i + countAt t i) t)
-
--- parameters among the words from a place to an end
-unfoldable pub parametersFrom : List ℕ → ℕ → ℕ → ℕ
-parametersFrom t at end = count isParameter (map partOf (slice at end t))
+-- parameters among the parts from one place to another
+abbrev pub parametersFrom : List ℕ → ℕ → ℕ → ℕ
+parametersFrom t at end = count isParameter (partsBetween t at end)
 
 pub parameters-whole : (t : List ℕ) (i : ℕ) (r : Parts) → r ≡ ruleSpan t i → parametersFrom t (r .at) (r .end) ≡ parametersIn t i
-unfolding parametersFrom parametersIn ruleParts
-parameters-whole t i r e =
-    ap (λ (x : Parts). parametersFrom t (x .at) (x .end)) e ∙ ap (λ (l : List ℕ). count isParameter (map partOf l)) (span-words t i)
-
-pub span-within : (t : List ℕ) (i : ℕ) (r : Parts) → r ≡ ruleSpan t i → r .end ≤ length t
-unfolding ruleSpan
-span-within t i r e = let to : r .end ≡ min (ruleFrom t i + countAt t i) (length t) = ap (λ (x : Parts). x .end) e in omega arith
+unfolding parametersIn
+parameters-whole t i r e = ap (count isParameter) (parts-whole t i r e)
 
 pub parameters-none : (t : List ℕ) (at end : ℕ) → end ≤ length t → end ≤ at → parametersFrom t at end ≡ 0
-unfolding parametersFrom count
-parameters-none t at end h k =
-    ap (λ (l : List ℕ). count isParameter (map partOf l)) (drop-of-length-le (take end t) {i = at} (omega (arith, length-take-le end t h)))
+unfolding count
+parameters-none t at end h k = ap (count isParameter) (parts-none t at end h k)
 
 module _ (t : List ℕ) (at end w : ℕ) (below : at < end) (fits : end ≤ length t) (is : w ≡ wordAt t at) where
-  parameters-next : parametersFrom t at end ≡ select (ltb 256 w) (suc (parametersFrom t (suc at) end)) (parametersFrom t (suc at) end)
-  unfolding parametersFrom count wordAt
-  parameters-next =
-      ap (λ (l : List ℕ). count isParameter (map partOf l)) (slice-cons at end t 0 below fits)
-      ∙ ap (λ (b : Bool). select b (suc (parametersFrom t (suc at) end)) (parametersFrom t (suc at) end)) (parameter-word (wordAt t at) ∙ ap (ltb 256) (sym is))
+  parameters-next : (b : Bool) → ltb 256 w ≡ b → parametersFrom t at end ≡ select b (suc (parametersFrom t (at + 1) end)) (parametersFrom t (at + 1) end)
+  unfolding count
+  parameters-next b e =
+      ap (count isParameter) (parts-next t at end fits below)
+      ∙ ap (λ (x : Bool). select x (suc (parametersFrom t (at + 1) end)) (parametersFrom t (at + 1) end)) (parameter-word (wordAt t at) ∙ ap (ltb 256) (sym is) ∙ e)
 
   pub parameter-here : 256 < w → parametersFrom t at end ≡ parametersFrom t (at + 1) end + 1
-  parameter-here h =
-      parameters-next ∙ ap (λ (b : Bool). select b (suc (parametersFrom t (suc at) end)) (parametersFrom t (suc at) end)) (lt-ltb 256 w h)
-      ∙ sym (add-one (parametersFrom t (suc at) end)) ∙ ap (λ (n : ℕ). parametersFrom t n end + 1) (sym (add-one at))
+  parameter-here h = parameters-next true (lt-ltb 256 w h) ∙ sym (add-one (parametersFrom t (at + 1) end))
 
   pub parameter-other : w ≤ 256 → parametersFrom t at end ≡ parametersFrom t (at + 1) end
-  parameter-other h =
-      parameters-next ∙ ap (λ (b : Bool). select b (suc (parametersFrom t (suc at) end)) (parametersFrom t (suc at) end)) (le-ltb 256 w h)
-      ∙ ap (λ (n : ℕ). parametersFrom t n end) (sym (add-one at))
+  parameter-other h = parameters-next false (le-ltb 256 w h)
 
 pub few-parameters : (t : List ℕ) (i n : ℕ) → n ≡ parametersIn t i → n ≤ 8 → leb (parametersIn t i) 8 ≡ true
 few-parameters t i n e h = le-leb (parametersIn t i) 8 (omega arith)

@@ -1,3 +1,4 @@
 pub mod Words
 pub mod Check
 pub mod Starts
+pub mod Prefixes

@@ -1,14 +1,17 @@
 -- The table's words as the code reads them.
 use mathlib.Core.Path.{_≡_, refl, sym, ap, ap₂, _∙_}
 use mathlib.Core.Bool.{Bool, true, false}
-use mathlib.Core.List.{List}
+use mathlib.Core.List.{List, [], _∷_, map}
 use Prim.Native.Nat.{ℕ, _+_, _*_, _-_, _%_, _≤_, _<_, min}
+use native.Mathlib.Numerals.{add-one}
+use native.Mathlib.Decide.{decLe}
 use native.Mathlib.Omega.{arith}
 use lib.Dec.{eqb, ltb}
-use lib.ListN.{length, getD}
+use lib.ListN.{length, getD, take, drop, drop-of-length-le}
+use lib.Seq.{slice, slice-cons, take-all, length-take-le}
 use borrow.Author.Tests.{lt-ltb, le-ltb, eq-eqb, ne-eqb}
 use Rattle.plain.specs.Choice.{select}
-use Rattle.defs.specs.Table.{wordAt, recordsFrom, partsFrom, fieldAt, firstAt, countAt, partOf, ruleFrom, ruleSpan}
+use Rattle.defs.specs.Table.{wordAt, recordsFrom, partsFrom, fieldAt, firstAt, countAt, partOf, ruleFrom, ruleWords, ruleSpan, ruleParts, partsBetween}
 use Rattle.defs.specs.declared.ruledef.Part.{Part}
 use Rattle.defs.specs.declared.ruledef.Part.the-variants.{Exact, Whitespace, Expression, Nested}
 use Rattle.defs.specs.declared.ruledef.Parts.{Parts}
@@ -44,3 +47,34 @@ module _ (t : List ℕ) (i a b f n : ℕ) (sets : a ≡ wordAt t 0) (rules : b �
   pub span-short : length t < 3 + a + 3 * b + f + n → _≡_ {A = Parts} (record { at = 3 + a + 3 * b + f; end = length t }) (ruleSpan t i)
   unfolding ruleSpan
   span-short h = let to : length t ≡ min (ruleFrom t i + countAt t i) (length t) = omega (arith, from, many) in λ j. record { at = from j; end = to j }
+
+-- ---- the parts between two places
+
+take-within : (n : ℕ) (l : List ℕ) → take (min n (length l)) l ≡ take n l
+take-within n l = go (decLe n (length l))
+  where
+    go : Dec (n ≤ length l) → take (min n (length l)) l ≡ take n l
+    go (yes h) = let e : min n (length l) ≡ n = omega arith in ap (λ (m : ℕ). take m l) e
+    go (no h) =
+        let e : min n (length l) ≡ length l = omega (arith, h) in
+        ap (λ (m : ℕ). take m l) e ∙ take-all (length l) l (omega arith) ∙ sym (take-all n l (omega (arith, h)))
+
+-- from where a rule's parts begin to where they end stand the rule's parts
+pub parts-whole : (t : List ℕ) (i : ℕ) (r : Parts) → r ≡ ruleSpan t i → partsBetween t (r .at) (r .end) ≡ ruleParts t i
+unfolding partsBetween ruleSpan ruleParts ruleWords
+parts-whole t i r e =
+    ap (λ (x : Parts). partsBetween t (x .at) (x .end)) e
+    ∙ ap (λ (l : List ℕ). map partOf (drop (ruleFrom t i) l)) (take-within (ruleFrom t i + countAt t i) t)
+
+pub parts-within : (t : List ℕ) (i : ℕ) (r : Parts) → r ≡ ruleSpan t i → r .end ≤ length t
+unfolding ruleSpan
+parts-within t i r e = let to : r .end ≡ min (ruleFrom t i + countAt t i) (length t) = ap (λ (x : Parts). x .end) e in omega arith
+
+module _ (t : List ℕ) (at end : ℕ) (fits : end ≤ length t) where
+  pub parts-none : end ≤ at → partsBetween t at end ≡ []
+  unfolding partsBetween
+  parts-none h = ap (map partOf) (drop-of-length-le (take end t) {i = at} (omega (arith, length-take-le end t fits)))
+
+  pub parts-next : at < end → partsBetween t at end ≡ partOf (wordAt t at) ∷ partsBetween t (at + 1) end
+  unfolding partsBetween wordAt
+  parts-next h = ap (map partOf) (slice-cons at end t 0 h fits ∙ ap (λ (n : ℕ). getD t at 0 ∷ slice n end t) (sym (add-one at)))

@@ -71,6 +71,10 @@ ruleSpan t i = record { at = ruleFrom t i; end = min (ruleFrom t i + countAt t i
 unfoldable pub ruleParts : List ℕ → ℕ → List Part
 ruleParts t i = map partOf (ruleWords t i)
 
+-- the parts whose words stand from one place to before another
+unfoldable pub partsBetween : List ℕ → ℕ → ℕ → List Part
+partsBetween t at end = map partOf (slice at end t)
+
 abbrev pub isParameter : Part → Bool
 isParameter (Exact b) = false
 isParameter Whitespace = false

@@ -5,7 +5,8 @@ use Prim.Native.Nat.{_+_, _-_, _≤_}
 use native.Mathlib.Omega.{arith}
 use lib.ListN.{length}
 use denote.Ref.{now}
-use Rattle.defs.proofs.Check.{parametersFrom, parameters-whole, parameters-none, parameter-here, parameter-other, span-within}
+use Rattle.defs.proofs.Check.{parametersFrom, parameters-whole, parameters-none, parameter-here, parameter-other}
+use Rattle.defs.proofs.Words.{parts-within}
 use Rattle.defs.proofs.ruledef.parameters_of.Statement.{statement}
 use Rattle.defs.proofs.ruledef.parameters_of.Tie as tie
 
@@ -19,7 +20,7 @@ parts-of-requires : tie.Need-parts-of-requires Inv-loop μ-loop
 parts-of-requires c κs = search needs
 
 loop-holds : tie.Need-loop-holds Inv-loop μ-loop
-loop-holds c = (span-within _ _ _ (c .parts-of .ensures), (omega arith, omega arith))
+loop-holds c = (parts-within _ _ _ (c .parts-of .ensures), (omega arith, omega arith))
 
 word-requires : tie.Need-word-requires Inv-loop μ-loop
 word-requires c κs = search needs
