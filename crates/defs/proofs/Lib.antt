@@ -2,3 +2,4 @@ pub mod Words
 pub mod Check
 pub mod Starts
 pub mod Prefixes
+pub mod Orders

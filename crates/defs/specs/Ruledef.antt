@@ -22,6 +22,10 @@ recordsOf t s = keepIf (λ i. eqb (rulesetAt t i) s) (range 0 (recordsIn t))
 unfoldable pub isTop : List ℕ → ℕ → Bool
 isTop t s = eqb (flagAt t s) 0
 
+-- a rule of a top ruleset
+unfoldable pub isTopRule : List ℕ → ℕ → Bool
+isTopRule t i = isTop t (rulesetAt t i)
+
 unfoldable pub rulesetOf : List ℕ → ℕ → Ruleset
 rulesetOf t s = record { top = isTop t s; rules = map (ruleParts t) (recordsOf t s) }
 

@@ -1,15 +1,15 @@
 -- The prefix map: a rule's prefix, a line's prefix, and the rules to try, in their order.
 use mathlib.Core.Bool.{Bool, true, false, _&&_}
 use mathlib.Core.List.{List, [], _∷_, _++_, map, flatMap}
-use Prim.Native.Nat.{ℕ, suc}
+use Prim.Native.Nat.{ℕ, suc, _+_}
 use lib.Dec.{eqb, leb}
 use lib.ListN.{length, getD, take, drop}
 use Rattle.plain.specs.Choice.{select}
 use Rattle.plain.specs.Lists.{range, keepIf, listed}
 use Rattle.syntax.specs.Token.{lowered}
 use Rattle.syntax.specs.Cut.{isSolid}
-use Rattle.defs.specs.Table.{recordsIn, rulesetAt, ruleParts}
-use Rattle.defs.specs.Ruledef.{isTop}
+use Rattle.defs.specs.Table.{recordsIn, ruleParts}
+use Rattle.defs.specs.Ruledef.{isTopRule}
 use Rattle.defs.specs.declared.ruledef.Part.{Part}
 use Rattle.defs.specs.declared.ruledef.Part.the-variants.{Exact, Whitespace, Expression, Nested}
 use Rattle.defs.specs.declared.ruledef_map.Prefix.{Prefix}
@@ -47,10 +47,6 @@ sameBytes (x ∷ xs) (y ∷ ys) = eqb x y && sameBytes xs ys
 unfoldable pub prefixLength : List Part → List ℕ → ℕ
 prefixLength ps p = select (sameBytes (rulePrefix ps) (take (length (rulePrefix ps)) p)) (length (rulePrefix ps)) 5
 
--- a rule of a top ruleset
-unfoldable pub isTopRule : List ℕ → ℕ → Bool
-isTopRule t i = isTop t (rulesetAt t i)
-
 -- the full scan tries the top rules in table order
 unfoldable pub topRules : List ℕ → List ℕ
 topRules t = keepIf (isTopRule t) (range 0 (recordsIn t))
@@ -62,6 +58,17 @@ withPrefix t q = keepIf (λ i. isTopRule t i && sameBytes (rulePrefix (ruleParts
 -- lookup tries the line's prefixes of length 0 upward, up to what exists; within one length, table order
 unfoldable pub foundRules : List ℕ → List ℕ → List ℕ
 foundRules t p = flatMap (λ j. withPrefix t (take j p)) (range 0 (suc (length p)))
+
+-- what a lookup marks a rule with: its prefix's length if it may match, else 5; and the rules with a mark, in table order
+unfoldable pub markOf : List ℕ → List ℕ → ℕ → ℕ
+markOf t p i = select (isTopRule t i) (prefixLength (ruleParts t i) p) 5
+
+unfoldable pub marked : List ℕ → ℕ → ℕ → List ℕ
+marked marks n j = keepIf (λ i. eqb (getD marks i 0) j) (range 0 n)
+
+-- a list of rules in a buffer from place n on, and the place after it
+abbrev pub putAfter : ℕ → List ℕ → List ℕ → List ℕ × ℕ
+putAfter n rules buffer = (take n buffer ++ rules ++ drop (n + length rules) buffer, n + length rules)
 
 -- a list of rules at a buffer's start, and how many; a table of more than 512 records, or of more than the buffer has
 -- room for, lists none

@@ -8,7 +8,7 @@ ghost use lib.ListN.{length};
 ghost use Rattle.defs.specs.Table.{wordAt, rulesetsIn, recordsIn, partsIn, partsFrom, fieldAt, rulesetAt, partOf, ruleSpan, parametersIn, isPart};
 ghost use Rattle.defs.specs.Table.{inRange, flagsFit, rulesetsFit, rangesFit, countsFit, parametersFit, partsFit, tableFits};
 ghost use Rattle.plain.specs.Lists.{listed};
-ghost use Rattle.defs.specs.Ruledef.{isTop, startsOf, tallyOf, summedUp};
+ghost use Rattle.defs.specs.Ruledef.{isTopRule, startsOf, tallyOf, summedUp};
 
 // S, R and P stand first; then a flag for each ruleset, three words for each rule, a word for each part.
 const HEAD: usize = 3;
@@ -94,11 +94,11 @@ pub fn rule_count(table: &[u16]) -> usize
     word(table, 1)
 }
 
-// Whether a ruleset is tried on whole lines.
-pub fn is_top(table: &[u16], set: u16) -> bool
-    ensures answers { λ r. ⌜ r ≡ isTop (now (table .entry)) set ⌝ }
+// Whether a rule is tried on whole lines: it is of a top ruleset.
+pub fn is_top_rule(table: &[u16], rule: u16) -> bool
+    ensures answers { λ r. ⌜ r ≡ isTopRule (now (table .entry)) rule ⌝ }
 {
-    word(table, HEAD + set as usize) == 0
+    word(table, HEAD + field(table, rule, RULESET)) == 0
 }
 
 // The ruleset that a rule is of.

@@ -4,12 +4,13 @@ use crate::ruledef;
 use crate::ruledef::Part;
 use syntax::token;
 ghost use mathlib.Core.Path.{_≡_};
-ghost use mathlib.Core.List.{List};
 ghost use Prim.Native.Nat.{ℕ, _+_, _≤_, _<_};
+ghost use lib.Dec.{eqb};
 ghost use lib.ListN.{length, getD};
-ghost use Rattle.plain.specs.Lists.{listed};
-ghost use Rattle.defs.specs.Table.{recordsIn, ruleParts};
-ghost use Rattle.defs.specs.RuledefMap.{linePrefix, heldPrefix, prefixBytes, prefixLength, topRules, foundRules, putRules};
+ghost use Rattle.plain.specs.Below.{countBelow};
+ghost use Rattle.defs.specs.Table.{ruleParts};
+ghost use Rattle.defs.specs.RuledefMap.{linePrefix, heldPrefix, prefixBytes, prefixLength};
+ghost use Rattle.defs.specs.RuledefMap.{topRules, foundRules, markOf, marked, putAfter, putRules};
 
 const MAX_PREFIX_SIZE: usize = 4;
 
@@ -75,4 +76,96 @@ fn prefix_length(table: &[u16], rule: u16, prefix: Prefix) -> u8
         at += 1;
     }
     same
+}
+
+// Writes the top rules, by their places in the table and in its order, to the buffer's start.
+pub fn top_rules(table: &[u16], found: &mut [u16]) -> usize
+    ensures answers { λ r. ⌜ (now (found .exit), r) ≡ putRules (now (table .entry)) (topRules (now (table .entry))) (now (found .entry)) ⌝ }
+{
+    let rules = ruledef::rule_count(table);
+    if MOST_RULES < rules {
+        return 0;
+    }
+    if found.len() < rules {
+        return 0;
+    }
+    let mut count: usize = 0;
+    let mut rule: u16 = 0;
+    while (rule as usize) < rules {
+        let here = rule;
+        rule += 1;
+        if ruledef::is_top_rule(table, here) {
+            found[count] = here;
+            count += 1;
+        }
+    }
+    count
+}
+
+// Marks each rule with its prefix's length, if it is a top rule and the line begins with that, else with 5. This is the
+// lookup's one pass over records and prefixes.
+fn mark_rules(table: &[u16], rules: usize, prefix: Prefix, marks: &mut [u8])
+    requires { ⌜ rules ≤ 512 ⌝ }
+    requires { ⌜ rules ≤ length (now marks) ⌝ }
+    ensures { λ _. ⌜ ((i : ℕ) → i < rules → getD (now (marks .exit)) i 0 ≡ markOf (now (table .entry)) (prefixBytes prefix) i) ⌝ }
+{
+    let mut rule: u16 = 0;
+    while (rule as usize) < rules {
+        let at = rule as usize;
+        marks[at] = mark(table, rule, prefix);
+        rule += 1;
+    }
+}
+
+fn mark(table: &[u16], rule: u16, prefix: Prefix) -> u8
+    ensures { λ r. ⌜ r ≡ markOf (now (table .entry)) (prefixBytes prefix) rule ⌝ }
+{
+    if ruledef::is_top_rule(table, rule) {
+        return prefix_length(table, rule, prefix);
+    }
+    MISSED
+}
+
+// Writes the rules that have the mark, in table order, after those written before.
+fn gather(marks: &[u8], rules: usize, wanted: u8, found: &mut [u16], from: usize) -> usize
+    requires { ⌜ rules ≤ 512 ⌝ }
+    requires { ⌜ rules ≤ length (now marks) ⌝ }
+    requires { ⌜ from + countBelow rules (λ i. eqb (getD (now marks) i 0) wanted) ≤ length (now found) ⌝ }
+    ensures { λ r. ⌜ (now (found .exit), r) ≡ putAfter from (marked (now (marks .entry)) rules wanted) (now (found .entry)) ⌝ }
+{
+    let mut count = from;
+    let mut rule: u16 = 0;
+    while (rule as usize) < rules {
+        let here = rule;
+        let at = rule as usize;
+        rule += 1;
+        if marks[at] == wanted {
+            found[count] = here;
+            count += 1;
+        }
+    }
+    count
+}
+
+// Writes the rules to try on a line with this prefix: those of the prefixes of length 0 upward, within one length in
+// table order.
+pub fn query_prefixed(table: &[u16], prefix: Prefix, found: &mut [u16]) -> usize
+    ensures answers { λ r. ⌜ (now (found .exit), r) ≡ putRules (now (table .entry)) (foundRules (now (table .entry)) (prefixBytes prefix)) (now (found .entry)) ⌝ }
+{
+    let rules = ruledef::rule_count(table);
+    if MOST_RULES < rules {
+        return 0;
+    }
+    if found.len() < rules {
+        return 0;
+    }
+    let mut marks = [5u8; 512];
+    mark_rules(table, rules, prefix, &mut marks);
+    let mut count: usize = 0;
+    let mut size: u8 = 0;
+    while size <= FULL {
+        count = gather(&marks, rules, size, found, count);
+        size += 1;
+    }
+    count
 }

@@ -123,3 +123,13 @@ count-next (suc n) f j = go (ltb (f n) j) (eqb (f n) j) refl refl (count-next n 
     go true false p q h = rw (lt-ltb (f n) (suc j) (omega (arith, ltb-true (f n) j p))) (omega arith)
     go false true p q h = rw (lt-ltb (f n) (suc j) (omega (arith, eqb-true (f n) j q))) (omega arith)
     go false false p q h = rw (le-ltb (f n) (suc j) (omega (arith, ltb-false (f n) j p, eqb-false (f n) j q))) (omega arith)
+
+-- a count only grows with the bound
+pub count-grows : (m n : ℕ) (f : ℕ → Bool) → m ≤ n → countBelow m f ≤ countBelow n f
+unfolding countBelow
+count-grows m zero f h = let e : m ≡ 0 = omega arith in subst (λ (k : ℕ). countBelow k f ≤ 0) (sym e) (omega arith)
+count-grows m (suc n) f h =
+    elim (ℕ-discrete m (suc n)) [
+      | yes e ↦ subst (λ (k : ℕ). countBelow k f ≤ countBelow n f + select (f n) 1 0) (sym e) (omega arith)
+      | no d ↦ omega (arith, count-grows m n f (omega (arith, d)))
+    ]

@@ -1,7 +1,7 @@
 -- Laws of ranges and of the members that a test keeps. Each goes by induction on the list or on the range's length.
 use mathlib.Core.Path.{_≡_, refl, sym, ap, ap₂, _∙_}
 use mathlib.Core.Bool.{Bool, true, false, _||_}
-use mathlib.Core.List.{List, [], _∷_, _++_, map}
+use mathlib.Core.List.{List, [], _∷_, _++_, map, flatMap, append-nil, append-assoc}
 use Prim.Native.Nat.{ℕ, zero, suc, _+_, _≤_, _<_}
 use native.Mathlib.Nat.{add-zero, zero-add, add-suc, suc-add}
 use native.Mathlib.Numerals.{add-one}
@@ -124,3 +124,51 @@ kept-more n f =
     ∙ ap (keepIf f) (range-more 0 n)
     ∙ keepIf-append f (range 0 n) ((0 + n) ∷ [])
     ∙ ap (λ (m : ℕ). keepIf f (range 0 n) ++ keepIf f (m ∷ [])) (zero-add n)
+
+pub kept-same : (n : ℕ) (f g : ℕ → Bool) → ((i : ℕ) → i < n → f i ≡ g i) → keepIf f (range 0 n) ≡ keepIf g (range 0 n)
+unfolding keepIf range
+kept-same n f g h = from 0 n (λ i l. h i (omega arith))
+  where
+    from : (a k : ℕ) → ((i : ℕ) → i < a + k → f i ≡ g i) → keepIf f (range a k) ≡ keepIf g (range a k)
+    from a zero e = refl
+    from a (suc k) e = ap₂ (λ (t : Bool) (l : List ℕ). select t (a ∷ l) l) (e a (omega arith)) (from (suc a) k (λ i l. e i (omega arith)))
+
+pub kept-none : (n : ℕ) (f : ℕ → Bool) → ((i : ℕ) → i < n → f i ≡ false) → keepIf f (range 0 n) ≡ []
+unfolding keepIf
+kept-none n f h = kept-same n f (λ i. false) h ∙ nothing (range 0 n)
+  where
+    nothing : (l : List ℕ) → keepIf (λ i. false) l ≡ []
+    nothing [] = refl
+    nothing (x ∷ l) = nothing l
+
+-- a list for each number, joined: one number more, and as many as give something
+module _ {A : Type 0} (f : ℕ → List A) where
+  flat-append : (xs ys : List ℕ) → flatMap f (xs ++ ys) ≡ flatMap f xs ++ flatMap f ys
+  unfolding flatMap
+  flat-append [] ys = refl
+  flat-append (x ∷ xs) ys = ap (λ (l : List A). f x ++ l) (flat-append xs ys) ∙ sym (append-assoc (f x) (flatMap f xs) (flatMap f ys))
+
+  pub flat-more : (n : ℕ) → flatMap f (range 0 (n + 1)) ≡ flatMap f (range 0 n) ++ f n
+  unfolding flatMap
+  flat-more n =
+      ap (λ (m : ℕ). flatMap f (range 0 m)) (add-one n)
+      ∙ ap (flatMap f) (range-more 0 n)
+      ∙ flat-append (range 0 n) ((0 + n) ∷ [])
+      ∙ ap (λ (l : List A). flatMap f (range 0 n) ++ l) (append-nil (f (0 + n)) ∙ ap f (zero-add n))
+
+pub flat-same : {A : Type 0} (f g : ℕ → List A) (n : ℕ) → ((i : ℕ) → i < n → f i ≡ g i) → flatMap f (range 0 n) ≡ flatMap g (range 0 n)
+unfolding flatMap range
+flat-same {A} f g n h = from 0 n (λ i l. h i (omega arith))
+  where
+    from : (a k : ℕ) → ((i : ℕ) → i < a + k → f i ≡ g i) → flatMap f (range a k) ≡ flatMap g (range a k)
+    from a zero e = refl
+    from a (suc k) e = ap₂ (λ (x y : List A). x ++ y) (e a (omega arith)) (from (suc a) k (λ i l. e i (omega arith)))
+
+pub flat-fewer : {A : Type 0} (f : ℕ → List A) (m k : ℕ) → ((i : ℕ) → m ≤ i → i < m + k → f i ≡ []) → flatMap f (range 0 (m + k)) ≡ flatMap f (range 0 m)
+flat-fewer {A} f m zero h = ap (λ (n : ℕ). flatMap f (range 0 n)) (add-zero m)
+flat-fewer {A} f m (suc k) h =
+    ap (λ (n : ℕ). flatMap f (range 0 n)) (add-suc m k ∙ sym (add-one (m + k)))
+    ∙ flat-more f (m + k)
+    ∙ ap (λ (l : List A). flatMap f (range 0 (m + k)) ++ l) (h (m + k) (omega arith) (omega arith))
+    ∙ append-nil (flatMap f (range 0 (m + k)))
+    ∙ flat-fewer f m k (λ i a b. h i a (omega arith))
