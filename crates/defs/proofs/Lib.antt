@@ -3,3 +3,4 @@ pub mod Check
 pub mod Starts
 pub mod Prefixes
 pub mod Orders
+pub mod Tight

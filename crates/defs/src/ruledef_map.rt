@@ -102,6 +102,13 @@ pub fn top_rules(table: &[u16], found: &mut [u16]) -> usize
     count
 }
 
+// Room for a mark a rule. Only its length is promised, which lending it needs.
+fn no_marks() -> [u8; 512]
+    ensures { λ r. ⌜ 512 ≡ length r ⌝ }
+{
+    [MISSED; 512]
+}
+
 // Marks each rule with its prefix's length, if it is a top rule and the line begins with that, else with 5. This is the
 // lookup's one pass over records and prefixes.
 fn mark_rules(table: &[u16], rules: usize, prefix: Prefix, marks: &mut [u8])
@@ -159,7 +166,7 @@ pub fn query_prefixed(table: &[u16], prefix: Prefix, found: &mut [u16]) -> usize
     if found.len() < rules {
         return 0;
     }
-    let mut marks = [5u8; 512];
+    let mut marks = no_marks();
     mark_rules(table, rules, prefix, &mut marks);
     let mut count: usize = 0;
     let mut size: u8 = 0;

@@ -25,11 +25,14 @@ returns c = put-many _ _ _ (omega (arith, c .before .rule-count .ensures, c .if1
 returns-2 : tie.Need-returns-2 Inv-loop μ-loop
 returns-2 c = put-short _ _ _ (omega (arith, c .before .before .rule-count .ensures, c .before .if1 .left)) (omega (arith, c .before .before .rule-count .ensures, c .if2 .taken))
 
+no-marks-requires : tie.Need-no-marks-requires Inv-loop μ-loop
+no-marks-requires c κs = search needs
+
 slice-aggregate-mark-rules : tie.Need-slice-aggregate-mark-rules Inv-loop μ-loop
 slice-aggregate-mark-rules c = search needs
 
 mark-rules-requires : tie.Need-mark-rules-requires Inv-loop μ-loop
-mark-rules-requires c κs = omega (arith, c .before .before .if1 .left)
+mark-rules-requires c κs = omega (arith, c .before .before .before .if1 .left)
 
 loop-holds : tie.Need-loop-holds Inv-loop μ-loop
 loop-holds c = (taken-none _ _ _, (refl, omega arith))
@@ -39,8 +42,8 @@ slice-aggregate-gather c = search needs
 
 gather-requires : tie.Need-gather-requires Inv-loop μ-loop
 gather-requires c κs = (
-  omega (arith, c .before .before .before .before .before .before .before .before .if1 .left),
-  (omega (arith, c .before .before .before .before .before .before .before .before .if1 .left, c .before .before .before .before .before .mark-rules .kept .1 .1 .1 .0), taken-room _ _ _ _ _ _ (c .before .before .before .loop .inv .0) (omega (arith, c .before .before .before .loop .inv .1 .0, c .before .before .before .before .before .before .before .if2 .left))),
+  omega (arith, c .before .before .before .before .before .before .before .before .before .if1 .left),
+  (omega (arith, c .before .before .before .before .before .before .before .before .before .if1 .left, c .before .before .before .before .before .mark-rules .kept .1 .1 .1 .0), taken-room _ _ _ _ _ _ (c .before .before .before .loop .inv .0) (omega (arith, c .before .before .before .loop .inv .1 .0, c .before .before .before .before .before .before .before .before .if2 .left))),
 )
 
 add-size : tie.Need-add-size Inv-loop μ-loop
@@ -58,9 +61,9 @@ same-length c = c .before .loop .inv .1 .0
 returns-3 : tie.Need-returns-3 Inv-loop μ-loop
 returns-3 c =
     let end : c .before .loop .size ≡ 5 = omega arith in
-    let four : length (c .before .before .before .before .before .before .before .before .before .before .args .prefix .bytes) ≡ 4 = search needs in
-    taken-all _ (prefixBytes (c .before .before .before .before .before .before .before .before .before .before .args .prefix)) _ _ _ _ _ _ (omega (arith, four, length-take (c .before .before .before .before .before .before .before .before .before .before .args .prefix .count) (c .before .before .before .before .before .before .before .before .before .before .args .prefix .bytes))) (c .before .before .before .before .before .before .before .rule-count .ensures) (c .before .before .before .mark-rules .ensures) end (c .before .loop .inv .0)
-    ∙ put-all _ _ _ (omega (arith, c .before .before .before .before .before .before .before .rule-count .ensures, c .before .before .before .before .before .before .if1 .left)) (omega (arith, c .before .before .before .before .before .before .before .rule-count .ensures, c .before .before .before .before .before .if2 .left))
+    let four : length (c .before .before .before .before .before .before .before .before .before .before .before .args .prefix .bytes) ≡ 4 = search needs in
+    taken-all _ (prefixBytes (c .before .before .before .before .before .before .before .before .before .before .before .args .prefix)) _ _ _ _ _ _ (omega (arith, four, length-take (c .before .before .before .before .before .before .before .before .before .before .before .args .prefix .count) (c .before .before .before .before .before .before .before .before .before .before .before .args .prefix .bytes))) (c .before .before .before .before .before .before .before .before .rule-count .ensures) (c .before .before .before .mark-rules .ensures) end (c .before .loop .inv .0)
+    ∙ put-all _ _ _ (omega (arith, c .before .before .before .before .before .before .before .before .rule-count .ensures, c .before .before .before .before .before .before .before .if1 .left)) (omega (arith, c .before .before .before .before .before .before .before .before .rule-count .ensures, c .before .before .before .before .before .before .if2 .left))
 
 pub query-prefixed-spec : {M : Type 1} → statement M
 query-prefixed-spec =
@@ -71,6 +74,7 @@ query-prefixed-spec =
     rule-count-requires
     returns
     returns-2
+    no-marks-requires
     slice-aggregate-mark-rules
     mark-rules-requires
     loop-holds
