@@ -11,6 +11,12 @@ ghost use Rattle.plain.specs.Lists.{listed};
 ghost use Rattle.defs.specs.Ruledef.{isTopRule, startsOf, tallyOf, summedUp};
 
 // S, R and P stand first; then a flag for each ruleset, three words for each rule, a word for each part.
+const SETS: usize = 0;
+
+const RULES: usize = 1;
+
+const PARTS: usize = 2;
+
 const HEAD: usize = 3;
 
 const FIELDS: usize = 3;
@@ -76,7 +82,7 @@ fn field(table: &[u16], rule: u16, which: usize) -> usize
 {
     word(
         table,
-        HEAD + word(table, 0) + FIELDS * (rule as usize) + which,
+        HEAD + word(table, SETS) + FIELDS * (rule as usize) + which,
     )
 }
 
@@ -84,14 +90,14 @@ fn field(table: &[u16], rule: u16, which: usize) -> usize
 pub fn ruleset_count(table: &[u16]) -> usize
     ensures answers { λ r. ⌜ r ≡ rulesetsIn (now (table .entry)) ⌝ }
 {
-    word(table, 0)
+    word(table, SETS)
 }
 
 // How many rules there are, in all rulesets.
 pub fn rule_count(table: &[u16]) -> usize
     ensures answers { λ r. ⌜ r ≡ recordsIn (now (table .entry)) ⌝ }
 {
-    word(table, 1)
+    word(table, RULES)
 }
 
 // Whether a rule is tried on whole lines: it is of a top ruleset.
@@ -112,7 +118,7 @@ pub fn ruleset_of(table: &[u16], rule: u16) -> usize
 pub fn parts_of(table: &[u16], rule: u16) -> Parts
     ensures answers { λ r. ⌜ r ≡ ruleSpan (now (table .entry)) rule ⌝ }
 {
-    let first = HEAD + word(table, 0) + FIELDS * word(table, 1) + field(table, rule, FIRST);
+    let first = HEAD + word(table, SETS) + FIELDS * word(table, RULES) + field(table, rule, FIRST);
     let end = first + field(table, rule, COUNT);
     if end <= table.len() {
         return Parts { at: first, end };
@@ -147,7 +153,7 @@ fn count_rules(table: &[u16], counts: &mut [u16])
     requires { ⌜ now counts ≡ listed 33 (tallyOf (now table) 0) ⌝ }
     ensures { λ _. ⌜ now (counts .exit) ≡ listed 33 (tallyOf (now (table .entry)) (recordsIn (now (table .entry)))) ⌝ }
 {
-    let rules = word(table, 1);
+    let rules = word(table, RULES);
     let mut rule: u16 = 0;
     while (rule as usize) < rules {
         let set = field(table, rule, RULESET);
@@ -339,9 +345,9 @@ fn sizes_fit(sets: usize, rules: usize, parts: usize) -> bool
 pub fn check_table(table: &[u16]) -> bool
     ensures answers { λ r. ⌜ r ≡ tableFits (now (table .entry)) ⌝ }
 {
-    let sets = word(table, 0);
-    let rules = word(table, 1);
-    let parts = word(table, 2);
+    let sets = word(table, SETS);
+    let rules = word(table, RULES);
+    let parts = word(table, PARTS);
     if !sizes_fit(sets, rules, parts) {
         return false;
     }

@@ -203,6 +203,16 @@ fn has_seen(seen: bool, b: u8) -> bool
     !token::is_whitespace(b)
 }
 
+fn on(seen: bool, parens: usize, braces: usize) -> Turn
+    ensures { λ r. ⌜ r ≡ Turn.On (record { seen = seen; parens = parens; braces = braces }) ⌝ }
+{
+    Turn::On(Search {
+        seen,
+        parens,
+        braces,
+    })
+}
+
 // One byte of the search. The character's test comes before the nesting rules for the same byte.
 fn take_in(s: Search, b: u8, wanted: u8) -> Turn
     requires { ⌜ s .parens + 1 < 2 ^ 64 ⌝ }
@@ -216,44 +226,24 @@ fn take_in(s: Search, b: u8, wanted: u8) -> Turn
     let parens = s.parens;
     let braces = s.braces;
     if b == OPEN_PAREN {
-        return Turn::On(Search {
-            seen,
-            parens: parens + 1,
-            braces,
-        });
+        return on(seen, parens + 1, braces);
     }
     if b == CLOSE_PAREN {
         if parens == 0 {
             return Turn::Stray;
         }
-        return Turn::On(Search {
-            seen,
-            parens: parens - 1,
-            braces,
-        });
+        return on(seen, parens - 1, braces);
     }
     if b == OPEN_BRACE {
-        return Turn::On(Search {
-            seen,
-            parens,
-            braces: braces + 1,
-        });
+        return on(seen, parens, braces + 1);
     }
     if b == CLOSE_BRACE {
         if braces == 0 {
             return Turn::Stray;
         }
-        return Turn::On(Search {
-            seen,
-            parens,
-            braces: braces - 1,
-        });
+        return on(seen, parens, braces - 1);
     }
-    Turn::On(Search {
-        seen,
-        parens,
-        braces,
-    })
+    on(seen, parens, braces)
 }
 
 fn find_cut(line: &[u8], from: usize, end: usize, wanted: u8) -> Lookahead
