@@ -3,3 +3,4 @@ pub mod Below
 pub mod Lists
 pub mod Calls
 pub mod Answers
+pub mod Members

@@ -1,6 +1,7 @@
 -- Lists: the numbers from one on, and the members of which a test holds.
 use mathlib.Core.Bool.{Bool, true, false, _&&_, _||_}
-use mathlib.Core.List.{List, [], _∷_, map}
+use mathlib.Core.Path.{_≡_}
+use mathlib.Core.List.{List, [], _∷_, map, List·Memᴰ}
 use Prim.Native.Nat.{ℕ, zero, suc}
 use Rattle.plain.specs.Choice.{select}
 
@@ -28,3 +29,8 @@ module _ {A : Type 0} (f : A → Bool) where
 -- f at the numbers below n, in order
 unfoldable pub listed : {A : Type 0} → ℕ → (ℕ → A) → List A
 listed n f = map f (range 0 n)
+
+-- no two members have the same key
+abbrev pub Apart : {A K : Type 0} → (A → K) → List A → Type 0
+Apart key [] = Unit {0}
+Apart key (x ∷ xs) = ((y : _) → List·Memᴰ y xs → key x ≡ key y → ⊥) × Apart key xs

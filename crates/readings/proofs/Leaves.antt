@@ -1,0 +1,122 @@
+-- The leaves of the walk against those of the relation: useful place, exact part, whitespace part, cut and span are found
+-- exactly where they are declared.
+use mathlib.Core.Path.{_≡_, refl, sym, ap, _∙_, subst}
+use mathlib.Core.Logic.{_⊎_, inl, inr, ⊎-elim, _↔_}
+use mathlib.Core.Bool.{Bool, true, false, _&&_, _||_}
+use mathlib.Core.List.{List, [], _∷_, List·Memᴰ, List·Memᴰ·head, List·Memᴰ·tail, List·Memᴰ·cases-cons, List·Memᴰ·not-nil}
+use mathlib.Core.Option.{Option, none, some, Option·some-inj, Option·none-ne-some}
+use Prim.Native.Nat.{ℕ, zero, suc, _+_, _≤_, _<_, min}
+use native.Mathlib.Omega.{arith}
+use native.Mathlib.Decide.{decLt}
+use lib.Dec.{leb, ltb}
+use lib.ListN.{length}
+use borrow.Author.Tests.{ltb-true, lt-ltb, leb-true, leb-false, le-leb}
+use Rattle.plain.specs.Choice.{select}
+use Rattle.plain.proofs.Tests.{tested, not-both, and-left, and-right, and-both, or-cases, or-left, or-right}
+use Rattle.syntax.specs.Token.{isWhitespace, sameLetter}
+use Rattle.syntax.specs.Walker.{byteAt, held, over, UsefulPlace, useful, gap}
+use Rattle.syntax.specs.declared.walker.Walker.{Walker}
+use Rattle.syntax.proofs.Useful.{held-within, useful-is, useful-one}
+use Rattle.defs.specs.declared.ruledef.Part.{Part}
+use Rattle.readings.specs.Scene.{Scene, walkerAt, lookahead, Lawful}
+use Rattle.readings.specs.Reading.{Useful, Exactly-at, Gap, Cut-for, Under, whole, up-to, Span}
+use Rattle.readings.specs.Walk.{usefulAt, past, isGap, cutBy, cutFor, listOf, limits, start}
+
+module _ (s : Scene) (l c : ℕ) where
+  pub useful-found : Useful s l c (usefulAt s l c)
+  useful-found = useful-is (s .line) (walkerAt (s .line) l c) (held-within (s .line) (record { cursor = c; limit = l }))
+
+  pub useful-only : {p : ℕ} → Useful s l c p → p ≡ usefulAt s l c
+  useful-only {p} u = useful-one (s .line) (walkerAt (s .line) l c) p (usefulAt s l c) u useful-found
+
+  -- ---- exact part
+
+  pub past-declared : (x d : ℕ) → past s l c x ≡ some d → Exactly-at s l c x d
+  unfolding past
+  past-declared x d e = go (tested (ltb u m && sameLetter (byteAt (s .line) u) x))
+    where
+      u : ℕ
+      u = usefulAt s l c
+      m : ℕ
+      m = walkerAt (s .line) l c .limit
+      go : ((ltb u m && sameLetter (byteAt (s .line) u) x) ≡ true) ⊎ ((ltb u m && sameLetter (byteAt (s .line) u) x) ≡ false) → Exactly-at s l c x d
+      go (inl t) = record {
+        place = u;
+        useful = useful-found;
+        below = ltb-true u m (and-left (ltb u m) (sameLetter (byteAt (s .line) u) x) t);
+        equal = and-right (ltb u m) (sameLetter (byteAt (s .line) u) x) t;
+        past = sym (Option·some-inj .0 (sym (ap (λ (b : Bool). select b (some (u + 1)) none) t) ∙ e))
+      }
+      go (inr f) = absurd (Option·none-ne-some d (sym (ap (λ (b : Bool). select b (some (u + 1)) none) f) ∙ e))
+
+  pub past-found : (x d : ℕ) → Exactly-at s l c x d → past s l c x ≡ some d
+  unfolding past
+  past-found x d e =
+      let at = useful-only (e .useful) in
+      let below : usefulAt s l c < walkerAt (s .line) l c .limit = subst (λ (p : ℕ). p < walkerAt (s .line) l c .limit) at (e .below) in
+      let equal : sameLetter (byteAt (s .line) (usefulAt s l c)) x ≡ true = subst (λ (p : ℕ). sameLetter (byteAt (s .line) p) x ≡ true) at (e .equal) in
+      ap (λ (b : Bool). select b (some (usefulAt s l c + 1)) none) (and-both _ _ (lt-ltb _ _ below) equal)
+      ∙ ap {B = Option ℕ} some (ap (λ (p : ℕ). p + 1) (sym at) ∙ sym (e .past))
+
+  -- ---- whitespace part
+
+  pub gap-declared : isGap s l c ≡ true → Gap s l c
+  unfolding gap over
+  gap-declared e =
+      ⊎-elim (λ t. inl (leb-true (walkerAt (s .line) l c .limit) (walkerAt (s .line) l c .cursor) t)) (λ t. inr t)
+      (or-cases (leb (walkerAt (s .line) l c .limit) (walkerAt (s .line) l c .cursor)) (isWhitespace (byteAt (s .line) (walkerAt (s .line) l c .cursor))) e)
+
+  pub gap-found : Gap s l c → isGap s l c ≡ true
+  unfolding gap over
+  gap-found (inl h) = or-left _ _ (le-leb (walkerAt (s .line) l c .limit) (walkerAt (s .line) l c .cursor) h)
+  gap-found (inr t) = or-right (leb (walkerAt (s .line) l c .limit) (walkerAt (s .line) l c .cursor)) _ t
+
+  -- ---- span
+
+  pub span-declared : (e : ℕ) → Span s l c (start s l c e) e
+  span-declared e = record { place = usefulAt s l c; useful = useful-found; least = refl }
+
+  pub span-found : (f e : ℕ) → Span s l c f e → f ≡ start s l c e
+  span-found f e p = p .least ∙ ap (min e) (useful-only (p .useful))
+
+  -- ---- cut and limits
+
+  module _ (law : Lawful s) (ps : List Part) where
+    pub cut-declared : (m : ℕ) → cutFor s l c ps ≡ some m → Cut-for s l c ps m
+    unfolding cutFor
+    cut-declared m e = go (lookahead ps) refl e
+      where
+        go : (o : Option ℕ) → lookahead ps ≡ o → cutBy s l c o ≡ some m → Cut-for s l c ps m
+        go none p q = absurd (Option·none-ne-some m q)
+        go (some x) p q = record { char = x; ahead = p; cuts = law .cut-at x l c m .0 q }
+
+    pub cut-found : (m : ℕ) → Cut-for s l c ps m → cutFor s l c ps ≡ some m
+    unfolding cutFor
+    cut-found m k = ap (cutBy s l c) (k .ahead) ∙ law .cut-at (k .char) l c m .1 (k .cuts)
+
+    pub limit-declared : (m : ℕ) → List·Memᴰ m (limits s l c ps) → Under s l c ps m
+    unfolding limits
+    limit-declared m i =
+        elim (List·Memᴰ·cases-cons i)
+        [ inl e ↦ subst (λ (n : ℕ). Under s l c ps n) (sym e) whole
+        | inr j ↦ go (cutFor s l c ps) refl j
+        ]
+      where
+        go : (o : Option ℕ) → cutFor s l c ps ≡ o → List·Memᴰ m (listOf o) → Under s l c ps m
+        go none p j = absurd (List·Memᴰ·not-nil j)
+        go (some n) p j = elim (List·Memᴰ·cases-cons j) [ inl e ↦ up-to (cut-declared m (p ∙ ap {B = Option ℕ} some (sym e))) | inr k ↦ absurd (List·Memᴰ·not-nil k) ]
+
+    pub limit-found : (m : ℕ) → Under s l c ps m → List·Memᴰ m (limits s l c ps)
+    unfolding limits
+    limit-found m whole = List·Memᴰ·head refl
+    limit-found m (up-to k) = List·Memᴰ·tail (subst (λ (o : Option ℕ). List·Memᴰ m (listOf o)) (sym (cut-found m k)) (List·Memᴰ·head refl))
+
+-- a useful place below a limit is the same under any other limit that it is below
+pub same-useful : (s : Scene) (l m c p q : ℕ) → Useful s l c p → p < walkerAt (s .line) l c .limit → Useful s m c q → q < walkerAt (s .line) m c .limit → p ≡ q
+unfolding held
+same-useful s l m c p q u h v k = ordered (decLt p q) (decLt q p)
+  where
+    ordered : Dec (p < q) → Dec (q < p) → p ≡ q
+    ordered (yes i) j = absurd (not-both (v .passed p (omega (arith, u .from, u .within)) i) (u .stands h))
+    ordered (no i) (yes j) = absurd (not-both (u .passed q (omega (arith, v .from, v .within)) j) (v .stands k))
+    ordered (no i) (no j) = omega (arith, i, j)

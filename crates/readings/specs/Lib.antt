@@ -1,0 +1,5 @@
+pub mod Tree
+pub mod Scene
+pub mod Reading
+pub mod Plan
+pub mod Walk

@@ -1,0 +1,57 @@
+-- The scene: what a call is given, decoded. Its leaves are all that the relation and the walk see of table, line and sheet.
+use mathlib.Core.Bool.{Bool, true, false, _&&_, _||_}
+use mathlib.Core.List.{List, [], _∷_, _++_}
+use mathlib.Core.Option.{Option, none, some}
+use mathlib.Core.Path.{_≡_}
+use mathlib.Core.Logic.{_↔_}
+use Prim.Native.Nat.{ℕ, zero, suc, _+_, _≤_, _<_, min}
+use lib.Dec.{eqb, ltb}
+use lib.ListN.{length}
+use Rattle.plain.specs.Choice.{select}
+use Rattle.plain.specs.Lists.{range, keepIf, Apart}
+use Rattle.syntax.specs.Token.{isWhitespace, sameLetter}
+use Rattle.syntax.specs.Walker.{byteAt, held, over, UsefulPlace, useful, expectChar, gap}
+use Rattle.syntax.specs.Cut.{CutAt, cut}
+use Rattle.syntax.specs.declared.walker.Walker.{Walker}
+use Rattle.defs.specs.Table.{rulesetsIn, ruleParts}
+use Rattle.defs.specs.Ruledef.{isTop, recordsOf, rulesIn, beginsAt}
+use Rattle.defs.specs.declared.ruledef.Part.{Part}
+use Rattle.defs.specs.declared.ruledef.Part.the-variants.{Exact, Whitespace, Expression, Nested}
+use Rattle.extents.specs.Sheet.{freeEnd, greedyEnd}
+
+pub record Scene : Type 1 where
+  -- the line's bytes
+  pub line : List ℕ
+  -- top rulesets in order; a ruleset's rules by number, in order; a rule's parts
+  pub tops : List ℕ
+  pub rules : ℕ → List ℕ
+  pub parts : ℕ → ℕ → List Part
+  -- free(c, l) and greedy(c, l)
+  pub free : ℕ → ℕ → Option ℕ
+  pub greedy : ℕ → ℕ → Option ℕ
+  -- the cut for a character, under a limit, from a cursor: declared, and found
+  pub IsCut : ℕ → ℕ → ℕ → ℕ → Type 0
+  pub cut : ℕ → ℕ → ℕ → Option ℕ
+
+-- the walker at cursor c under limit l, held to the line
+abbrev pub walkerAt : List ℕ → ℕ → ℕ → Walker
+walkerAt line l c = held line (record { cursor = c; limit = l })
+
+-- Lookahead character: the next exact part after the parameter, over whitespace parts; none if a parameter or the end
+-- comes first.
+unfoldable pub lookahead : List Part → Option ℕ
+lookahead [] = none
+lookahead (Exact x ∷ ps) = some x
+lookahead (Whitespace ∷ ps) = lookahead ps
+lookahead (Expression ∷ ps) = none
+lookahead (Nested r ∷ ps) = none
+
+-- what theorems use of a scene: the cut that is found is the declared one; ends and cuts lie between cursor and limit;
+-- rules and top rulesets have no double
+pub record Lawful (s : Scene) : Type 0 where
+  pub cut-at : (x l c p : ℕ) → (s .cut x l c ≡ some p) ↔ s .IsCut x l c p
+  pub cut-within : (x l c p : ℕ) → c ≤ l → s .cut x l c ≡ some p → (c ≤ p) × (p ≤ l)
+  pub free-within : (c l e : ℕ) → s .free c l ≡ some e → (c ≤ e) × (e ≤ l)
+  pub greedy-within : (c l e : ℕ) → s .greedy c l ≡ some e → (c ≤ e) × (e ≤ l)
+  pub rules-apart : (r : ℕ) → Apart (λ (k : ℕ). k) (s .rules r)
+  pub tops-apart : Apart (λ (r : ℕ). r) (s .tops)
