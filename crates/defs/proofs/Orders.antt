@@ -186,14 +186,14 @@ module _ (marks : List ℕ) (n : ℕ) where
 
 -- ---- by length, the marks give the order of the lookup
 
-same-eq : (xs ys : List ℕ) → sameBytes xs ys ≡ true → xs ≡ ys
+pub same-eq : (xs ys : List ℕ) → sameBytes xs ys ≡ true → xs ≡ ys
 same-eq [] [] e = refl
 same-eq [] (y ∷ ys) e = absurd (true≢false (sym e))
 same-eq (x ∷ xs) [] e = absurd (true≢false (sym e))
 same-eq (x ∷ xs) (y ∷ ys) e =
     ap₂ (λ (a : ℕ) (l : List ℕ). a ∷ l) (eqb-true x y (and-left (eqb x y) (sameBytes xs ys) e)) (same-eq xs ys (and-right (eqb x y) (sameBytes xs ys) e))
 
-same-refl : (xs : List ℕ) → sameBytes xs xs ≡ true
+pub same-refl : (xs : List ℕ) → sameBytes xs xs ≡ true
 same-refl [] = refl
 same-refl (x ∷ xs) = and-both (eqb x x) (sameBytes xs xs) (eq-eqb x x refl) (same-refl xs)
 

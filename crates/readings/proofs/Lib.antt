@@ -6,3 +6,5 @@ pub mod Plans
 pub mod Runs
 pub mod Walks
 pub mod Scan
+pub mod Packed
+pub mod Lookups

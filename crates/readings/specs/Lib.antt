@@ -3,3 +3,4 @@ pub mod Scene
 pub mod Reading
 pub mod Plan
 pub mod Walk
+pub mod Lookup

@@ -1,20 +1,16 @@
 -- The scene: what a call is given, decoded. Its leaves are all that the relation and the walk see of table, line and sheet.
-use mathlib.Core.Bool.{Bool, true, false, _&&_, _||_}
-use mathlib.Core.List.{List, [], _∷_, _++_}
+use mathlib.Core.List.{List, [], _∷_}
 use mathlib.Core.Option.{Option, none, some}
 use mathlib.Core.Path.{_≡_}
 use mathlib.Core.Logic.{_↔_}
-use Prim.Native.Nat.{ℕ, zero, suc, _+_, _≤_, _<_, min}
-use lib.Dec.{eqb, ltb}
-use lib.ListN.{length}
-use Rattle.plain.specs.Choice.{select}
+use Prim.Native.Nat.{ℕ, _≤_}
+use lib.ListN.{length, getD}
 use Rattle.plain.specs.Lists.{range, keepIf, Apart}
-use Rattle.syntax.specs.Token.{isWhitespace, sameLetter}
-use Rattle.syntax.specs.Walker.{byteAt, held, over, UsefulPlace, useful, expectChar, gap}
+use Rattle.syntax.specs.Walker.{held}
 use Rattle.syntax.specs.Cut.{CutAt, cut}
 use Rattle.syntax.specs.declared.walker.Walker.{Walker}
-use Rattle.defs.specs.Table.{rulesetsIn, ruleParts}
-use Rattle.defs.specs.Ruledef.{isTop, recordsOf, rulesIn, beginsAt}
+use Rattle.defs.specs.Table.{rulesetsIn}
+use Rattle.defs.specs.Ruledef.{isTop, rulesetOf}
 use Rattle.defs.specs.declared.ruledef.Part.{Part}
 use Rattle.defs.specs.declared.ruledef.Part.the-variants.{Exact, Whitespace, Expression, Nested}
 use Rattle.extents.specs.Sheet.{freeEnd, greedyEnd}
@@ -55,3 +51,16 @@ pub record Lawful (s : Scene) : Type 0 where
   pub greedy-within : (c l e : ℕ) → s .greedy c l ≡ some e → (c ≤ e) × (e ≤ l)
   pub rules-apart : (r : ℕ) → Apart (λ (k : ℕ). k) (s .rules r)
   pub tops-apart : Apart (λ (r : ℕ). r) (s .tops)
+
+-- the scene of a packed table, a line and a sheet, with the first edition of the cut
+unfoldable pub sceneOf : List ℕ → List ℕ → List ℕ → Scene
+sceneOf t line sheet = record {
+  line = line;
+  tops = keepIf (isTop t) (range 0 (rulesetsIn t));
+  rules = λ r. range 0 (length (rulesetOf t r .rules));
+  parts = λ r k. getD (rulesetOf t r .rules) k [];
+  free = λ c l. freeEnd sheet (length line) c l;
+  greedy = λ c l. greedyEnd sheet (length line) c l;
+  IsCut = λ x l c p. CutAt line x (walkerAt line l c) p;
+  cut = λ x l c. cut line x (walkerAt line l c)
+}
