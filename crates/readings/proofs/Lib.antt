@@ -8,3 +8,5 @@ pub mod Walks
 pub mod Scan
 pub mod Packed
 pub mod Lookups
+pub mod Best
+pub mod Calls

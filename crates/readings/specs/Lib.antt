@@ -4,3 +4,6 @@ pub mod Reading
 pub mod Plan
 pub mod Walk
 pub mod Lookup
+pub mod Answer
+pub mod Call
+pub mod Demand

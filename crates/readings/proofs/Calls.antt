@@ -1,0 +1,137 @@
+-- The whole call, case by case: each number exactly in its case, and demand 3 for scan and lookup.
+use mathlib.Core.Path.{_≡_, refl, sym, _∙_, subst, ap, ap₂, fun-ext}
+use mathlib.Core.Logic.{_⊎_, inl, inr, ⊎-elim, _↔_}
+use mathlib.Core.Bool.{Bool, true, false, not}
+use mathlib.Core.Option.{Option, none, some}
+use mathlib.Core.List.{List, [], _∷_, _++_, map, List·Memᴰ, List·Memᴰ·head, List·Memᴰ·not-nil}
+use Prim.Native.Nat.{ℕ, _-_, _≤_, _<_}
+use native.Mathlib.Decide.{decLe}
+use native.Mathlib.Omega.{arith}
+use lib.Dec.{leb}
+use lib.ListN.{length, drop}
+use borrow.Author.Tests.{le-leb, lt-leb}
+use Rattle.plain.specs.Choice.{select}
+use Rattle.syntax.specs.Line.{faultAt}
+use Rattle.defs.specs.Table.{tableFits}
+use Rattle.defs.specs.RuledefMap.{linePrefix}
+use Rattle.extents.specs.Sheet.{sheetFits}
+use Rattle.extents.specs.Alike.{Alike}
+use Rattle.extents.proofs.Unread.{same-sheet, same-free, same-greedy}
+use Rattle.readings.specs.Tree.{Tree}
+use Rattle.readings.specs.Scene.{Scene, Lawful, sceneOf}
+use Rattle.readings.specs.Reading.{Reading, Readings}
+use Rattle.readings.specs.Plan.{Outcome, done, stop, run}
+use Rattle.readings.specs.Walk.{Match, topPairs, tries, scan}
+use Rattle.readings.specs.Lookup.{foundPairs, lookup}
+use Rattle.readings.specs.Answer.{exactCount, greatestCount, best, wordsOf, answerWords}
+use Rattle.readings.specs.Call.{Told, refusedAt, stoppedAfter, written, matched, tree, ended, budgetFits, lined, callWith, scanCall, lookupCall}
+use Rattle.readings.proofs.Runs.{run-spent}
+use Rattle.readings.proofs.Scan.{scan-readings, tries-readings}
+use Rattle.readings.proofs.Packed.{lawful}
+use Rattle.readings.proofs.Lookups.{lookup-readings, lookup-done}
+use Rattle.readings.specs.Demand.{BestReadings, Holds, Demand3}
+use Rattle.readings.proofs.Best.{best-readings, best-counts}
+
+-- table, line, sheet and budget that get no number from 2 to 5
+pub record Accepted (t line sheet : List ℕ) (budget : ℕ) : Type 0 where
+  pub table : tableFits t ≡ true
+  pub bytes : faultAt line ≡ none
+  pub extents : sheetFits sheet (length line) ≡ true
+  pub visits : budgetFits budget ≡ true
+
+module _ (order : Scene → List (ℕ × ℕ)) (t line sheet : List ℕ) (budget : ℕ) (b : List ℕ) where
+  abbrev answer : Told
+  answer = callWith order t line sheet budget b
+
+  abbrev walked : Told
+  walked = ended (sceneOf t line sheet) budget b (run (tries (sceneOf t line sheet) (order (sceneOf t line sheet))) budget 0)
+
+  -- the checks, in their order
+  pub bad-table : tableFits t ≡ false → answer ≡ refusedAt 2 0 b
+  unfolding callWith
+  bad-table e = rw (callWith, e)
+
+  pub bad-line : (p : ℕ) → tableFits t ≡ true → faultAt line ≡ some p → answer ≡ refusedAt 3 p b
+  unfolding callWith
+  bad-line p e f = rw (callWith, e, f)
+
+  pub bad-sheet : tableFits t ≡ true → faultAt line ≡ none → sheetFits sheet (length line) ≡ false → answer ≡ refusedAt 4 0 b
+  unfolding callWith
+  bad-sheet e f g = rw (callWith, e, f, g)
+
+  pub bad-budget : tableFits t ≡ true → faultAt line ≡ none → sheetFits sheet (length line) ≡ true → budgetFits budget ≡ false → answer ≡ refusedAt 5 0 b
+  unfolding callWith
+  bad-budget e f g h = rw (callWith, e, f, g, h)
+
+  pub accepted : Accepted t line sheet budget → answer ≡ walked
+  unfolding callWith
+  accepted a = rw (callWith, a .table, a .bytes, a .extents, a .visits)
+
+  -- a walk that is refused, with its visits; on 6 they are the budget
+  pub stopped : Accepted t line sheet budget → (n left : ℕ) → run (tries (sceneOf t line sheet) (order (sceneOf t line sheet))) budget 0 ≡ stop n left
+      → answer ≡ stoppedAfter n (budget - left) b
+  stopped a n left e = accepted a ∙ ap (ended (sceneOf t line sheet) budget b) e
+
+  pub spent : Accepted t line sheet budget → (left : ℕ) → run (tries (sceneOf t line sheet) (order (sceneOf t line sheet))) budget 0 ≡ stop 6 left
+      → answer ≡ stoppedAfter 6 budget b
+  spent a left e =
+      let all : budget - left ≡ budget = omega (arith, run-spent (tries (sceneOf t line sheet) (order (sceneOf t line sheet))) budget 0 e) in
+      stopped a 6 left e ∙ ap (λ (v : ℕ). stoppedAfter 6 v b) all
+
+  -- a walk that is not refused
+  pub walked-through : Accepted t line sheet budget → (left used : ℕ) (ms : List Match) → run (tries (sceneOf t line sheet) (order (sceneOf t line sheet))) budget 0 ≡ done left used ms
+      → answer ≡ matched (sceneOf t line sheet) (budget - left) (map tree ms) b
+  walked-through a left used ms e = accepted a ∙ ap (ended (sceneOf t line sheet) budget b) e
+
+-- ---- demand 3, from the readings that a walk has listed
+
+module _ (s : Scene) (v : ℕ) (b : List ℕ) where
+  fits : (ws : List ℕ) → length ws ≤ length b → written v ws b ≡ record { number = 0; visits = v; words = length ws; place = 0; buffer = ws ++ drop (length ws) b }
+  fits ws h = ap (λ (x : Bool). select x (record { number = 0; visits = v; words = length ws; place = 0; buffer = ws ++ drop (length ws) b }) (record { number = 9; visits = v; words = length ws; place = 0; buffer = b })) (le-leb (length ws) (length b) h)
+
+  short : (ws : List ℕ) → length b < length ws → written v ws b ≡ record { number = 9; visits = v; words = length ws; place = 0; buffer = b }
+  short ws h = ap (λ (x : Bool). select x (record { number = 0; visits = v; words = length ws; place = 0; buffer = ws ++ drop (length ws) b }) (record { number = 9; visits = v; words = length ws; place = 0; buffer = b })) (lt-leb (length ws) (length b) h)
+
+  number-of : (ws : List ℕ) → (written v ws b .number ≡ 0) ⊎ (written v ws b .number ≡ 9)
+  number-of ws = by (decLe (length ws) (length b))
+    where
+      by : Dec (length ws ≤ length b) → (written v ws b .number ≡ 0) ⊎ (written v ws b .number ≡ 9)
+      by (yes h) = inl (ap (λ (r : Told). r .number) (fits ws h))
+      by (no h) = inr (ap (λ (r : Told). r .number) (short ws (omega (arith, h))))
+
+  words-of : (ws : List ℕ) → written v ws b .words ≡ length ws
+  words-of ws = by (decLe (length ws) (length b))
+    where
+      by : Dec (length ws ≤ length b) → written v ws b .words ≡ length ws
+      by (yes h) = ap (λ (r : Told). r .words) (fits ws h)
+      by (no h) = ap (λ (r : Told). r .words) (short ws (omega (arith, h)))
+
+  pub demand : (ts : List Tree) → Readings s ts → Demand3 s b (matched s v ts b)
+  demand [] r = record {
+    no-match = (λ e t k. List·Memᴰ·not-nil (r .every k), λ n. refl);
+    matched = λ k h. absurd (List·Memᴰ·not-nil (r .every k));
+    holds = λ e. let z : _≡_ {A = ℕ} 1 0 = e in absurd (omega arith);
+    no-room = λ k h. absurd (List·Memᴰ·not-nil (r .every k))
+  }
+  demand (t ∷ ts) r = record {
+    no-match = (λ e. absurd (⊎-elim (λ z. omega (arith, e, z)) (λ z. omega (arith, e, z)) (number-of ws)), λ n. absurd (n t (r .only (List·Memᴰ·head refl))));
+    matched = λ k h. ap (λ (x : Told). x .number) (fits ws (omega (arith, h, words-of ws)));
+    holds = λ e. record {
+      trees = best s (t ∷ ts);
+      count = greatestCount s (t ∷ ts);
+      readings = best-readings s (t ∷ ts) r;
+      counts = best-counts s (t ∷ ts);
+      words = words-of ws;
+      held = ap (λ (x : Told). x .buffer) (fits ws (room e))
+    };
+    no-room = λ k h. ap (λ (x : Told). x .number) (short ws (omega (arith, h, words-of ws)))
+  }
+    where
+      ws : List ℕ
+      ws = answerWords s (t ∷ ts)
+      room : written v ws b .number ≡ 0 → length ws ≤ length b
+      room e = by (decLe (length ws) (length b))
+        where
+          by : Dec (length ws ≤ length b) → length ws ≤ length b
+          by (yes h) = h
+          by (no h) = absurd (let z : written v ws b .number ≡ 9 = ap (λ (r : Told). r .number) (short ws (omega (arith, h))) in omega (arith, e, z))
