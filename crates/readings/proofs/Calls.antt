@@ -86,10 +86,10 @@ module _ (order : Scene → List (ℕ × ℕ)) (t line sheet : List ℕ) (budget
 -- ---- demand 3, from the readings that a walk has listed
 
 module _ (s : Scene) (v : ℕ) (b : List ℕ) where
-  fits : (ws : List ℕ) → length ws ≤ length b → written v ws b ≡ record { number = 0; visits = v; words = length ws; place = 0; buffer = ws ++ drop (length ws) b }
+  pub fits : (ws : List ℕ) → length ws ≤ length b → written v ws b ≡ record { number = 0; visits = v; words = length ws; place = 0; buffer = ws ++ drop (length ws) b }
   fits ws h = ap (λ (x : Bool). select x (record { number = 0; visits = v; words = length ws; place = 0; buffer = ws ++ drop (length ws) b }) (record { number = 9; visits = v; words = length ws; place = 0; buffer = b })) (le-leb (length ws) (length b) h)
 
-  short : (ws : List ℕ) → length b < length ws → written v ws b ≡ record { number = 9; visits = v; words = length ws; place = 0; buffer = b }
+  pub short : (ws : List ℕ) → length b < length ws → written v ws b ≡ record { number = 9; visits = v; words = length ws; place = 0; buffer = b }
   short ws h = ap (λ (x : Bool). select x (record { number = 0; visits = v; words = length ws; place = 0; buffer = ws ++ drop (length ws) b }) (record { number = 9; visits = v; words = length ws; place = 0; buffer = b })) (lt-leb (length ws) (length b) h)
 
   number-of : (ws : List ℕ) → (written v ws b .number ≡ 0) ⊎ (written v ws b .number ≡ 9)
@@ -105,6 +105,14 @@ module _ (s : Scene) (v : ℕ) (b : List ℕ) where
       by : Dec (length ws ≤ length b) → written v ws b .words ≡ length ws
       by (yes h) = ap (λ (r : Told). r .words) (fits ws h)
       by (no h) = ap (λ (r : Told). r .words) (short ws (omega (arith, h)))
+
+  pub visits-told : (ts : List Tree) → matched s v ts b .visits ≡ v
+  visits-told [] = refl
+  visits-told (t ∷ ts) = by (decLe (length (answerWords s (t ∷ ts))) (length b))
+    where
+      by : Dec (length (answerWords s (t ∷ ts)) ≤ length b) → written v (answerWords s (t ∷ ts)) b .visits ≡ v
+      by (yes h) = ap (λ (r : Told). r .visits) (fits (answerWords s (t ∷ ts)) h)
+      by (no h) = ap (λ (r : Told). r .visits) (short (answerWords s (t ∷ ts)) (omega (arith, h)))
 
   pub demand : (ts : List Tree) → Readings s ts → Demand3 s b (matched s v ts b)
   demand [] r = record {

@@ -10,3 +10,5 @@ pub mod Packed
 pub mod Lookups
 pub mod Best
 pub mod Calls
+pub mod Theorems
+pub mod Numbers

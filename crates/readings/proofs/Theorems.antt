@@ -1,0 +1,88 @@
+-- The theorems, in one place: what the whole call tells, said in the reading relation.
+use mathlib.Core.Path.{_≡_, sym, _∙_, subst, ap}
+use mathlib.Core.Bool.{Bool, true, false, not}
+use mathlib.Core.Option.{Option, none, some}
+use mathlib.Core.List.{List, [], _∷_, map}
+use Prim.Native.Nat.{ℕ, _-_, _≤_}
+use native.Mathlib.Omega.{arith}
+use lib.ListN.{length, getD}
+use Rattle.plain.specs.Choice.{select}
+use Rattle.plain.specs.Lists.{range, keepIf}
+use Rattle.syntax.specs.Line.{faultAt}
+use Rattle.syntax.specs.Cut.{CutAt, cut}
+use Rattle.defs.specs.Table.{rulesetsIn, tableFits}
+use Rattle.defs.specs.Ruledef.{isTop, rulesetOf}
+use Rattle.defs.specs.RuledefMap.{linePrefix}
+use Rattle.extents.specs.Sheet.{sheetFits, freeEnd, greedyEnd}
+use Rattle.extents.specs.Alike.{Alike}
+use Rattle.extents.proofs.Unread.{same-sheet, same-free, same-greedy}
+use Rattle.readings.specs.Tree.{Tree}
+use Rattle.readings.specs.Scene.{Scene, walkerAt, sceneOf}
+use Rattle.readings.specs.Plan.{Outcome, done, stop, run}
+use Rattle.readings.specs.Walk.{Match, topPairs, tries, scan}
+use Rattle.readings.specs.Lookup.{foundPairs, lookup}
+use Rattle.readings.specs.Call.{Told, refusedAt, stoppedAfter, matched, tree, ended, budgetFits, lined, callWith, scanCall, lookupCall}
+use Rattle.readings.specs.Demand.{Demand3}
+use Rattle.readings.proofs.Scan.{scan-readings}
+use Rattle.readings.proofs.Packed.{lawful}
+use Rattle.readings.proofs.Lookups.{lookup-readings, lookup-done}
+use Rattle.readings.proofs.Calls.{Accepted, walked-through, visits-told, demand}
+
+-- the rules that a lookup tries
+abbrev prefixed : Scene → List (ℕ × ℕ)
+prefixed s = foundPairs s (linePrefix (s .line))
+
+module _ (t line sheet : List ℕ) (budget : ℕ) (b : List ℕ) (ok : Accepted t line sheet budget) where
+  abbrev s : Scene
+  s = sceneOf t line sheet
+
+  -- the scan stays within visits, depth and pool
+  abbrev Within : Type 0
+  Within = (left used : ℕ) × (ms : List Match) × (run (scan s) budget 0 ≡ done left used ms)
+
+  -- demand 3 for the full scan
+  pub scan-demand : Within → Demand3 s b (scanCall t line sheet budget b)
+  unfolding scan
+  scan-demand (left, used, ms, e) =
+      subst (Demand3 s b) (sym (walked-through topPairs t line sheet budget b ok left used ms e))
+      (demand s (budget - left) b (map tree ms) (scan-readings s (lawful t line sheet (ok .extents)) budget e))
+
+  -- and for lookup, whenever the scan stays within: the same readings, with no more visits
+  pub lookup-demand : Within → Demand3 s b (lookupCall t line sheet budget b) × (lookupCall t line sheet budget b .visits ≤ scanCall t line sheet budget b .visits)
+  unfolding scan lookup
+  lookup-demand (left, used, ms, e) =
+      let law = lawful t line sheet (ok .extents) in
+      let (left′, used′, ms′, e′, less) = lookup-done s law budget e in
+      let there = walked-through prefixed t line sheet budget b ok left′ used′ ms′ e′ in
+      let here = walked-through topPairs t line sheet budget b ok left used ms e in
+      ( subst (Demand3 s b) (sym there) (demand s (budget - left′) b (map tree ms′) (lookup-readings s law budget e′))
+      , omega
+      ( arith
+      , ap (λ (r : Told). r .visits) there ∙ visits-told s (budget - left′) b (map tree ms′)
+      , ap (λ (r : Told). r .visits) here ∙ visits-told s (budget - left) b (map tree ms)
+      )
+      )
+
+-- entries whose start lies above their limit change no answer
+module _ (t line a b : List ℕ) (alike : Alike (length line) a b) where
+  same-scene : sceneOf t line a ≡ sceneOf t line b
+  unfolding sceneOf
+  same-scene = λ i. record {
+    line = line;
+    tops = keepIf (isTop t) (range 0 (rulesetsIn t));
+    rules = λ r. range 0 (length (rulesetOf t r .rules));
+    parts = λ r k. getD (rulesetOf t r .rules) k [];
+    free = λ c l. same-free alike c l i;
+    greedy = λ c l. same-greedy alike c l i;
+    IsCut = λ x l c p. CutAt line x (walkerAt line l c) p;
+    cut = λ x l c. cut line x (walkerAt line l c)
+  }
+
+  pub unread : (order : Scene → List (ℕ × ℕ)) (budget : ℕ) (buffer : List ℕ) → callWith order t line a budget buffer ≡ callWith order t line b budget buffer
+  unfolding callWith
+  unread order budget buffer = λ i.
+      select (not (tableFits t)) (refusedAt 2 0 buffer)
+      (lined (faultAt line) buffer
+      (select (not (same-sheet alike i)) (refusedAt 4 0 buffer)
+      (select (not (budgetFits budget)) (refusedAt 5 0 buffer)
+      (ended (same-scene i) budget buffer (run (tries (same-scene i) (order (same-scene i))) budget 0)))))
