@@ -12,3 +12,5 @@ pub mod Best
 pub mod Calls
 pub mod Theorems
 pub mod Numbers
+pub mod Spans
+pub mod Sizes

@@ -83,7 +83,7 @@ module _ {A B : Type 0} (f : A → Plan (List B)) where
 -- ---- each answer changed
 
 module _ {A B : Type 0} (f : A → B) (p : Plan (List A)) {rs : List B} (h : Gives (mapped f p) rs) where
-  mapped-parts : (xs : List A) × Gives p xs × (map f xs ≡ rs)
+  pub mapped-parts : (xs : List A) × Gives p xs × (map f xs ≡ rs)
   unfolding mapped _then_
   mapped-parts = let (xs, g, e) = then-gives _ p h in (xs, g, got e)
 

@@ -76,7 +76,7 @@ module _ {A : Type 0} where
 
 -- ---- cost together
 
-then-cost : {A B : Type 0} (p : Plan A) (f : A → Plan B) {a : A} → Gives p a
+pub then-cost : {A B : Type 0} (p : Plan A) (f : A → Plan B) {a : A} → Gives p a
     → (visits (p then f) ≡ visits p + visits (f a)) × (records (p then f) ≡ records p + records (f a))
 unfolding _then_
 then-cost (give x) f {a} h = let e : x ≡ a = cc in rw e (omega arith)

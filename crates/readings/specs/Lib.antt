@@ -7,3 +7,4 @@ pub mod Lookup
 pub mod Answer
 pub mod Call
 pub mod Demand
+pub mod Measure
