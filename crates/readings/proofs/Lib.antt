@@ -14,3 +14,4 @@ pub mod Theorems
 pub mod Numbers
 pub mod Spans
 pub mod Sizes
+pub mod Bounds

@@ -23,7 +23,7 @@ use Rattle.readings.specs.Measure.{solidsBefore, solids}
 
 module _ (s : Scene) (law : Lawful s) where
   -- one exact part: past its byte, within the limit, and one non-whitespace byte further
-  exact-within : (l c x d : ℕ) → c ≤ l → l ≤ length (s .line) → Exactly-at s l c x d → (c < d) × (d ≤ l)
+  pub exact-within : (l c x d : ℕ) → c ≤ l → l ≤ length (s .line) → Exactly-at s l c x d → (c < d) × (d ≤ l)
   unfolding held
   exact-within l c x d h k e = (omega (arith, e .useful .from, e .past), omega (arith, e .below, e .past))
 
@@ -39,7 +39,7 @@ module _ (s : Scene) (law : Lawful s) where
   cut-in : (l c : ℕ) (ps : List Part) (m : ℕ) → c ≤ l → Cut-for s l c ps m → (c ≤ m) × (m ≤ l)
   cut-in l c ps m h k = law .cut-within (k .char) l c m h (law .cut-at (k .char) l c m .1 (k .cuts))
 
-  candidate-within : (l c : ℕ) (ps : List Part) {d : ℕ} → c ≤ l → Candidate s l c ps d → (c ≤ d) × (d ≤ l)
+  pub candidate-within : (l c : ℕ) (ps : List Part) {d : ℕ} → c ≤ l → Candidate s l c ps d → (c ≤ d) × (d ≤ l)
   candidate-within l c ps h (freely {e} q) = law .free-within c l e q
   candidate-within l c ps h (cut-short {e} {m} k q _) =
       let (i, j) = cut-in l c ps m h k in
@@ -47,7 +47,7 @@ module _ (s : Scene) (law : Lawful s) where
       (a, omega arith)
   candidate-within l c ps h (greedily {e} q _ _) = law .greedy-within c l e q
 
-  under-within : (l c : ℕ) (ps : List Part) {m : ℕ} → c ≤ l → Under s l c ps m → (c ≤ m) × (m ≤ l)
+  pub under-within : (l c : ℕ) (ps : List Part) {m : ℕ} → c ≤ l → Under s l c ps m → (c ≤ m) × (m ≤ l)
   under-within l c ps h whole = (h, omega arith)
   under-within l c ps h (up-to {m} k) = cut-in l c ps m h k
 

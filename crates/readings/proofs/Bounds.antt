@@ -1,0 +1,221 @@
+-- What an answer can come to: every word of it fits 16 bits and its length 32, and where a scan is not refused no reading
+-- is deeper than 16.
+use mathlib.Core.Path.{_≡_, refl, sym, _∙_, subst, ap}
+use mathlib.Core.Logic.{_⊎_, inl, inr}
+use mathlib.Core.Bool.{Bool, true, false, not, _&&_}
+use mathlib.Core.Option.{Option, none}
+use mathlib.Core.List.{List, [], _∷_, _++_, map, List·Memᴰ, List·Memᴰ·head, List·Memᴰ·tail, List·Memᴰ·cases-cons, List·Memᴰ·append-cases, List·Memᴰ·not-nil, Memᴰ·of-map}
+use Prim.Native.Nat.{ℕ, zero, suc, _+_, _*_, _≤_, _<_, min}
+use native.Mathlib.Omega.{arith}
+use lib.Dec.{eqb}
+use lib.ListN.{length, length-append, length-map}
+use borrow.Author.Tests.{eqb-true}
+use Rattle.plain.specs.Choice.{select}
+use Rattle.plain.specs.Below.{countBelow}
+use Rattle.plain.specs.Lists.{range, keepIf}
+use Rattle.plain.proofs.Tests.{and-left, and-right}
+use Rattle.plain.proofs.Below.{count-most}
+use Rattle.plain.proofs.Lists.{kept-length}
+use Rattle.plain.proofs.Members.{range-below, kept-mem}
+use Rattle.syntax.specs.Token.{isWhitespace}
+use Rattle.syntax.specs.Walker.{byteAt}
+use Rattle.syntax.specs.Line.{faultAt, GoodLine}
+use Rattle.syntax.proofs.Lines.{good-is}
+use Rattle.defs.specs.Table.{tableFits, sizesFit, lengthFits, flagsFit, rulesetsFit, rangesFit, countsFit, parametersFit, partsFit, rulesetsIn, recordsIn, partsIn, rulesetAt, ruleParts}
+use Rattle.defs.specs.Ruledef.{recordsOf, rulesetOf}
+use Rattle.defs.specs.declared.ruledef.Part.{Part}
+use Rattle.defs.proofs.Check.{Sizes, sizes-bound}
+use Rattle.defs.proofs.Starts.{ruleset-below}
+use Rattle.readings.specs.Tree.{Tree, node, Args, end, expr, nest}
+use Rattle.readings.specs.Scene.{Scene, Lawful, sceneOf}
+use Rattle.readings.specs.Reading.{Span, From, finish, exact, whitespace, expression, nested, Reading, reading}
+use Rattle.readings.specs.Plan.{Outcome, done, run, records, room}
+use Rattle.readings.specs.Walk.{Match, topPairs, tries, scan, depths}
+use Rattle.readings.specs.Answer.{exactCount, greatestCount, greatest, best, argCount, treeWords, argWords, allWords, wordsOf, answerWords}
+use Rattle.readings.specs.Call.{Told, tree}
+use Rattle.readings.specs.Measure.{treeRecords, argRecords, treeDepth, solidsBefore, solids}
+use Rattle.readings.proofs.Runs.{run-done, run-room}
+use Rattle.readings.proofs.Packed.{lawful}
+use Rattle.readings.proofs.Scan.{Enough, scan-enough, tries-readings}
+use Rattle.readings.proofs.Best.{reached}
+use Rattle.readings.proofs.Spans.{exact-within, candidate-within, under-within, from-within, few-exact}
+use Rattle.readings.proofs.Sizes.{tries-paid, tries-stored, tries-shallow}
+use Rattle.readings.proofs.Calls.{Accepted}
+
+-- ---- how many words
+
+mutual
+  tree-length : (t : Tree) → length (treeWords t) ≡ 3 * treeRecords t
+  tree-length (node r k a) = omega (arith, arg-length a)
+
+  arg-length : (a : Args) → length (argWords a) ≡ 3 * argRecords a
+  arg-length end = refl
+  arg-length (expr x y a) = omega (arith, arg-length a)
+  arg-length (nest x y t a) = omega (arith, length-append (treeWords t) (argWords a), tree-length t, arg-length a)
+
+-- a pool's worth of records makes at most 12,288 words
+all-length : (ts : List Tree) → ((t : Tree) → List·Memᴰ t ts → treeRecords t ≤ room) → length (allWords ts) ≤ 12288 * length ts
+unfolding allWords
+all-length [] h = omega arith
+all-length (t ∷ ts) h =
+    omega (arith, length-append (treeWords t) (allWords ts), tree-length t, h t (List·Memᴰ·head refl), all-length ts (λ u m. h u (List·Memᴰ·tail m)))
+
+kept-fewer : {A : Type 0} (f : A → Bool) (xs : List A) → length (keepIf f xs) ≤ length xs
+unfolding keepIf
+kept-fewer f [] = omega arith
+kept-fewer {A} f (x ∷ xs) = go (f x) (kept-fewer f xs)
+  where
+    go : (b : Bool) → length (keepIf f xs) ≤ length xs → length (select b (x ∷ keepIf f xs) (keepIf f xs)) ≤ suc (length xs)
+    go true h = omega arith
+    go false h = omega arith
+
+-- ---- every word
+
+abbrev pub Fit : List ℕ → Type 0
+Fit ws = (w : ℕ) → List·Memᴰ w ws → w < 65536
+
+fit-none : Fit []
+fit-none w m = absurd (List·Memᴰ·not-nil m)
+
+fit-more : {x : ℕ} {ws : List ℕ} → x < 65536 → Fit ws → Fit (x ∷ ws)
+fit-more {x} {ws} h k w m = elim (List·Memᴰ·cases-cons m) [ inl e ↦ subst (λ (n : ℕ). n < 65536) (sym e) h | inr n ↦ k w n ]
+
+fit-join : (vs : List ℕ) {ws : List ℕ} → Fit vs → Fit ws → Fit (vs ++ ws)
+fit-join vs h k w m = elim (List·Memᴰ·append-cases vs m) [ inl i ↦ h w i | inr j ↦ k w j ]
+
+-- each argument is a record
+count-records : (a : Args) → argCount a ≤ argRecords a
+count-records end = omega arith
+count-records (expr x y a) = omega (arith, count-records a)
+count-records (nest x y t a) = omega (arith, count-records a)
+
+-- rulesets and rules that have numbers of 16 bits, and a line that is short
+pub record Small (s : Scene) : Type 0 where
+  pub short : length (s .line) ≤ 120
+  pub numbers : (r k : ℕ) → List·Memᴰ k (s .rules r) → (r < 65536) × (k < 65536)
+
+module _ (s : Scene) (law : Lawful s) (small : Small s) where
+  span-fits : (l c f d : ℕ) → d ≤ length (s .line) → Span s l c f d → (f < 65536) × (d < 65536)
+  span-fits l c f d h q = (omega (arith, q .least, small .short), omega (arith, small .short))
+
+  args-fit : {l c e : ℕ} {ps : List Part} {a : Args} → c ≤ l → l ≤ length (s .line) → From s l ps c a e → argRecords a ≤ room → Fit (argWords a)
+  args-fit h k finish few = fit-none
+  args-fit {l} {c} h k (exact {d = d} {x = x} p u) few = args-fit (exact-within s law l c x d h k p .1) k u few
+  args-fit h k (whitespace p u) few = args-fit h k u few
+  args-fit {l} {c} h k (expression {d = d} {f = f} {ps = ps} p q u) few =
+      let (i, j) = candidate-within s law l c ps h p in
+      let (x, y) = span-fits l c f d (omega arith) q in
+      fit-more (omega arith) (fit-more x (fit-more y (args-fit j k u (omega arith))))
+  args-fit {l} {c} h k (nested {m = m} {d = d} {f = f} {r = r} {k = z} {ps = ps} {a = a} {b = b} p n v q u) few =
+      let (i, j) = under-within s law l c ps h p in
+      let (_, o) = from-within s law i (omega arith) v in
+      let (x, y) = span-fits l c f d (omega arith) q in
+      let (g, w) = small .numbers r z n in
+      fit-more (omega arith)
+      (fit-more x
+      (fit-more y
+      (fit-join (treeWords (node r z b))
+      (fit-more g (fit-more w (fit-more (omega (arith, count-records b)) (args-fit i (omega arith) v (omega arith)))))
+      (args-fit (omega arith) k u (omega arith)))))
+
+  tree-fits : {t : Tree} → Reading s t → treeRecords t ≤ room → Fit (treeWords t)
+  tree-fits (reading {r} {k} {a} i j w) few =
+      let (g, h) = small .numbers r k j in
+      fit-more g (fit-more h (fit-more (omega (arith, count-records a)) (args-fit (omega arith) (omega arith) w (omega arith))))
+
+  all-fit : (ts : List Tree) → ((t : Tree) → List·Memᴰ t ts → Reading s t × (treeRecords t ≤ room)) → Fit (allWords ts)
+  unfolding allWords
+  all-fit [] h = fit-none
+  all-fit (t ∷ ts) h = let (r, few) = h t (List·Memᴰ·head refl) in fit-join (treeWords t) (tree-fits r few) (all-fit ts (λ u m. h u (List·Memᴰ·tail m)))
+
+  greatest-few : (ts : List Tree) → ((t : Tree) → List·Memᴰ t ts → Reading s t) → greatestCount s ts ≤ solids (s .line)
+  unfolding greatestCount greatest
+  greatest-few [] h = omega arith
+  greatest-few (t ∷ ts) h = let (u, m, e) = reached s t ts in omega (arith, few-exact s law (h u m))
+
+  solids-short : solids (s .line) ≤ 120
+  unfolding solidsBefore
+  solids-short = omega (arith, count-most (length (s .line)) (λ i. not (isWhitespace (byteAt (s .line) i))), small .short)
+
+  -- ---- of a call that its walk does not refuse
+
+  module _ (xs : List (ℕ × ℕ)) (enough : Enough s xs) (budget : ℕ) {left used : ℕ} {ms : List Match} (e : run (tries s xs) budget 0 ≡ done left used ms) where
+    taken : records (tries s xs) ≤ room
+    taken = omega (arith, run-room (tries s xs) budget 0 e (omega arith))
+
+    read : (t : Tree) → List·Memᴰ t (map tree ms) → Reading s t × (treeRecords t ≤ room)
+    read t m =
+        let g = run-done (tries s xs) budget 0 e .0 in
+        let (i, n, q) = Memᴰ·of-map tree ms m in
+        (tries-readings s law xs enough g .only m, subst (λ (u : Tree). treeRecords u ≤ room) q (omega (arith, taken, tries-stored s xs g n)))
+
+    kept-read : (t : Tree) → List·Memᴰ t (best s (map tree ms)) → Reading s t × (treeRecords t ≤ room)
+    unfolding best
+    kept-read t m = read t (kept-mem (λ t. eqb (exactCount s t) (greatestCount s (map tree ms))) (map tree ms) m .0)
+
+    -- no more matches than records
+    kept-count : length (best s (map tree ms)) ≤ room
+    unfolding best
+    kept-count =
+        omega (arith, taken, kept-fewer (λ t. eqb (exactCount s t) (greatestCount s (map tree ms))) (map tree ms), length-map ms tree, tries-paid s xs (run-done (tries s xs) budget 0 e .0))
+
+    -- a call's trees have at most as many records as the call took
+    pub trees-stored : (t : Tree) → List·Memᴰ t (map tree ms) → treeRecords t ≤ used
+    trees-stored t m =
+        let (g, _, u) = run-done (tries s xs) budget 0 e in
+        let (i, n, q) = Memᴰ·of-map tree ms m in
+        subst (λ (x : Tree). treeRecords x ≤ used) q (omega (arith, u, tries-stored s xs g n))
+
+    -- every answer word fits 16 bits
+    pub words-fit : Fit (answerWords s (map tree ms))
+    unfolding wordsOf
+    words-fit =
+        fit-more (omega (arith, kept-count))
+        (fit-more (omega (arith, greatest-few (map tree ms) (λ t m. read t m .0), solids-short)) (all-fit (best s (map tree ms)) kept-read))
+
+    -- and the words needed fit 32
+    pub words-few : length (answerWords s (map tree ms)) < 4294967296
+    unfolding wordsOf
+    words-few = omega (arith, kept-count, all-length (best s (map tree ms)) (λ t m. kept-read t m .1))
+
+-- ---- of an accepted call
+
+module _ (t line sheet : List ℕ) (budget : ℕ) (ok : Accepted t line sheet budget) where
+  sizes : Sizes (rulesetsIn t) (recordsIn t) (partsIn t)
+  unfolding tableFits sizesFit
+  sizes = sizes-bound (rulesetsIn t) (recordsIn t) (partsIn t) (and-left (sizesFit t) _ (ok .table))
+
+  rulesets-fit : rulesetsFit t ≡ true
+  unfolding tableFits
+  rulesets-fit =
+      and-left (rulesetsFit t) _
+      (and-right (flagsFit t) _ (and-right (lengthFits t) _ (and-right (sizesFit t) _ (ok .table))))
+
+  first-of : (xs : List ℕ) (k : ℕ) → k < length xs → (i : ℕ) × List·Memᴰ i xs
+  first-of [] k h = absurd (omega arith)
+  first-of (i ∷ xs) k h = (i, List·Memᴰ·head refl)
+
+  rules-few : (r k : ℕ) → List·Memᴰ k (range 0 (length (rulesetOf t r .rules))) → (r < 65536) × (k < 65536)
+  unfolding rulesetOf recordsOf
+  rules-few r k m =
+      let many = length-map (recordsOf t r) (ruleParts t) in
+      let below = range-below 0 (length (rulesetOf t r .rules)) m in
+      let (i, n) = first-of (recordsOf t r) k (omega (arith, many, below)) in
+      let (j, e) = kept-mem (λ i. eqb (rulesetAt t i) r) (range 0 (recordsIn t)) n in
+      let is = eqb-true (rulesetAt t i) r e in
+      ( omega (arith, is, ruleset-below t rulesets-fit i (omega (arith, range-below 0 (recordsIn t) j)), sizes .sets)
+      , omega (arith, many, below, kept-length (recordsIn t) (λ i. eqb (rulesetAt t i) r), count-most (recordsIn t) (λ i. eqb (rulesetAt t i) r), sizes .rules)
+      )
+
+  pub small : Small (sceneOf t line sheet)
+  unfolding sceneOf
+  small = record { short = good-is line .0 (ok .bytes) .short; numbers = rules-few }
+
+-- ---- depth never cuts a reading off in silence
+
+pub deepest : (s : Scene) → Lawful s → (v : ℕ) {w u : ℕ} {ms : List Match} → run (scan s) v 0 ≡ done w u ms → {t : Tree} → Reading s t → treeDepth t ≤ depths
+unfolding scan
+deepest s law v {w} {u} {ms} e r =
+    let g = run-done (tries s (topPairs s)) v 0 e .0 in
+    let (i, n, q) = Memᴰ·of-map tree ms (tries-readings s law (topPairs s) (scan-enough s law) g .every r) in
+    subst (λ (x : Tree). treeDepth x ≤ depths) q (tries-shallow s (topPairs s) g n)
