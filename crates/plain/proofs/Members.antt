@@ -73,10 +73,10 @@ module _ {A K : Type 0} (key : A → K) where
   pub apart-append : (xs : List A) {ys : List A} → Apart key xs → Apart key ys → ((x y : A) → List·Memᴰ x xs → List·Memᴰ y ys → key x ≡ key y → ⊥)
       → Apart key (xs ++ ys)
   apart-append [] p q h = q
-  apart-append (x ∷ xs) p q h =
-      ( (λ y m e. ⊎-elim (λ a. p .0 y a e) (λ b. h x y (List·Memᴰ·head refl) b e) (List·Memᴰ·append-cases xs m))
-      , apart-append xs (p .1) q (λ z y m. h z y (List·Memᴰ·tail m))
-      )
+  apart-append (x ∷ xs) p q h = (
+    (λ y m e. ⊎-elim (λ a. p .0 y a e) (λ b. h x y (List·Memᴰ·head refl) b e) (List·Memᴰ·append-cases xs m)),
+    apart-append xs (p .1) q (λ z y m. h z y (List·Memᴰ·tail m)),
+  )
 
 module _ {A B K L : Type 0} (ka : A → K) (kb : B → L) (f : A → B) (tells : (x y : A) → kb (f x) ≡ kb (f y) → ka x ≡ ka y) where
   pub apart-map : (xs : List A) → Apart ka xs → Apart kb (map f xs)

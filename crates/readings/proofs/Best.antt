@@ -22,9 +22,9 @@ module _ (s : Scene) where
   unfolding greatestCount greatest
   at-most [] m = absurd (List·Memᴰ·not-nil m)
   at-most (u ∷ ts) {t} m =
-      elim (List·Memᴰ·cases-cons m)
-      [ inl e ↦ subst (λ (v : Tree). exactCount s v ≤ max (exactCount s u) (greatest (map (exactCount s) ts))) (sym e) (omega arith)
-      | inr n ↦ omega (arith, at-most ts n)
+      elim (List·Memᴰ·cases-cons m) [
+        | inl e ↦ subst (λ (v : Tree). exactCount s v ≤ max (exactCount s u) (greatest (map (exactCount s) ts))) (sym e) (omega arith)
+        | inr n ↦ omega (arith, at-most ts n)
       ]
 
   pub reached : (t : Tree) (ts : List Tree) → (u : Tree) × List·Memᴰ u (t ∷ ts) × (exactCount s u ≡ greatestCount s (t ∷ ts))
@@ -41,10 +41,10 @@ pub best-readings : (s : Scene) (ts : List Tree) → Readings s ts → BestReadi
 unfolding best
 best-readings s ts r = record {
   only = λ {t} m.
-    let (i, e) = kept-mem (λ t. eqb (exactCount s t) (greatestCount s ts)) ts m in
-    record { reads = r .only i; most = λ u k. omega (arith, at-most s ts (r .every k), eqb-true (exactCount s t) (greatestCount s ts) e) };
+      let (i, e) = kept-mem (λ t. eqb (exactCount s t) (greatestCount s ts)) ts m in
+      record { reads = r .only i; most = λ u k. omega (arith, at-most s ts (r .every k), eqb-true (exactCount s t) (greatestCount s ts) e) };
   every = λ {t} g. kept-has (λ t. eqb (exactCount s t) (greatestCount s ts)) ts (eq-eqb _ _ (equal t ts (λ u k. r .only k) (r .every (g .reads)) (g .most))) (r .every (g .reads));
-  once = kept-apart (λ t. eqb (exactCount s t) (greatestCount s ts)) (λ (t : Tree). t) ts (r .once)
+  once = kept-apart (λ t. eqb (exactCount s t) (greatestCount s ts)) (λ (t : Tree). t) ts (r .once);
 }
   where
     equal : (t : Tree) (us : List Tree) → ((u : Tree) → List·Memᴰ u us → Reading s u) → List·Memᴰ t us → ((u : Tree) → Reading s u → exactCount s u ≤ exactCount s t)

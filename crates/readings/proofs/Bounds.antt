@@ -202,9 +202,9 @@ module _ (t line sheet : List ℕ) (budget : ℕ) (ok : Accepted t line sheet bu
       let below = range-below 0 (length (rulesetOf t r .rules)) m in
       let (i, n) = first-of (recordsOf t r) k (omega (arith, many, below)) in
       let (j, e) = kept-mem (λ i. eqb (rulesetAt t i) r) (range 0 (recordsIn t)) n in
-      let is = eqb-true (rulesetAt t i) r e in
-      ( omega (arith, is, ruleset-below t rulesets-fit i (omega (arith, range-below 0 (recordsIn t) j)), sizes .sets)
-      , omega (arith, many, below, kept-length (recordsIn t) (λ i. eqb (rulesetAt t i) r), count-most (recordsIn t) (λ i. eqb (rulesetAt t i) r), sizes .rules)
+      let is = eqb-true (rulesetAt t i) r e in (
+        omega (arith, is, ruleset-below t rulesets-fit i (omega (arith, range-below 0 (recordsIn t) j)), sizes .sets),
+        omega (arith, many, below, kept-length (recordsIn t) (λ i. eqb (rulesetAt t i) r), count-most (recordsIn t) (λ i. eqb (rulesetAt t i) r), sizes .rules),
       )
 
   pub small : Small (sceneOf t line sheet)

@@ -119,7 +119,7 @@ module _ (s : Scene) (v : ℕ) (b : List ℕ) where
     no-match = (λ e t k. List·Memᴰ·not-nil (r .every k), λ n. refl);
     matched = λ k h. absurd (List·Memᴰ·not-nil (r .every k));
     holds = λ e. let z : _≡_ {A = ℕ} 1 0 = e in absurd (omega arith);
-    no-room = λ k h. absurd (List·Memᴰ·not-nil (r .every k))
+    no-room = λ k h. absurd (List·Memᴰ·not-nil (r .every k));
   }
   demand (t ∷ ts) r = record {
     no-match = (λ e. absurd (⊎-elim (λ z. omega (arith, e, z)) (λ z. omega (arith, e, z)) (number-of ws)), λ n. absurd (n t (r .only (List·Memᴰ·head refl))));
@@ -130,13 +130,14 @@ module _ (s : Scene) (v : ℕ) (b : List ℕ) where
       readings = best-readings s (t ∷ ts) r;
       counts = best-counts s (t ∷ ts);
       words = words-of ws;
-      held = ap (λ (x : Told). x .buffer) (fits ws (room e))
+      held = ap (λ (x : Told). x .buffer) (fits ws (room e));
     };
-    no-room = λ k h. ap (λ (x : Told). x .number) (short ws (omega (arith, h, words-of ws)))
+    no-room = λ k h. ap (λ (x : Told). x .number) (short ws (omega (arith, h, words-of ws)));
   }
     where
       ws : List ℕ
       ws = answerWords s (t ∷ ts)
+
       room : written v ws b .number ≡ 0 → length ws ≤ length b
       room e = by (decLe (length ws) (length b))
         where

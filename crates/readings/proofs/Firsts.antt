@@ -38,14 +38,15 @@ module _ {A : Type 0} (same : A → A → Bool) where
     where
       later : First xs y × (anySame same (seen ++ (x ∷ [])) y ≡ false) → First (x ∷ xs) y × (anySame same seen y ≡ false)
       later (f, e) = let (p, q) = any-append seen x y e in (there q f, p)
+
       go : (b : Bool) → anySame same seen x ≡ b → List·Memᴰ y (unless b x (fresh same (seen ++ (x ∷ [])) xs))
           → (List·Memᴰ y (fresh same (seen ++ (x ∷ [])) xs) → First xs y × (anySame same (seen ++ (x ∷ [])) y ≡ false))
           → First (x ∷ xs) y × (anySame same seen y ≡ false)
       go true e k ih = later (ih k)
       go false e k ih =
-          elim (List·Memᴰ·cases-cons k)
-          [ inl q ↦ (rw q here, rw q e)
-          | inr j ↦ later (ih j)
+          elim (List·Memᴰ·cases-cons k) [
+            | inl q ↦ (rw q here, rw q e)
+            | inr j ↦ later (ih j)
           ]
 
   first-fresh : (seen : List A) {xs : List A} {y : A} → First xs y → anySame same seen y ≡ false → List·Memᴰ y (fresh same seen xs)
@@ -86,6 +87,7 @@ module _ {A : Type 0} (same : A → A → Bool) where
       where
         apart : (y : A) → List·Memᴰ y (fresh same (seen ++ (x ∷ [])) xs) → key x ≡ key y → ⊥
         apart y m e = unlike x y (any-append seen x y (fresh-first (seen ++ (x ∷ [])) xs m .1) .1) e
+
         go : (b : Bool) → Apart key (fresh same (seen ++ (x ∷ [])) xs) → Apart key (unless b x (fresh same (seen ++ (x ∷ [])) xs))
         go true v = v
         go false v = (apart, v)

@@ -37,15 +37,17 @@ module _ (s : Scene) (l c : ℕ) where
     where
       u : ℕ
       u = usefulAt s l c
+
       m : ℕ
       m = walkerAt (s .line) l c .limit
+
       go : ((ltb u m && sameLetter (byteAt (s .line) u) x) ≡ true) ⊎ ((ltb u m && sameLetter (byteAt (s .line) u) x) ≡ false) → Exactly-at s l c x d
       go (inl t) = record {
         place = u;
         useful = useful-found;
         below = ltb-true u m (and-left (ltb u m) (sameLetter (byteAt (s .line) u) x) t);
         equal = and-right (ltb u m) (sameLetter (byteAt (s .line) u) x) t;
-        past = sym (Option·some-inj .0 (sym (ap (λ (b : Bool). select b (some (u + 1)) none) t) ∙ e))
+        past = sym (Option·some-inj .0 (sym (ap (λ (b : Bool). select b (some (u + 1)) none) t) ∙ e));
       }
       go (inr f) = absurd (Option·none-ne-some d (sym (ap (λ (b : Bool). select b (some (u + 1)) none) f) ∙ e))
 
@@ -97,9 +99,9 @@ module _ (s : Scene) (l c : ℕ) where
     pub limit-declared : (m : ℕ) → List·Memᴰ m (limits s l c ps) → Under s l c ps m
     unfolding limits
     limit-declared m i =
-        elim (List·Memᴰ·cases-cons i)
-        [ inl e ↦ subst (λ (n : ℕ). Under s l c ps n) (sym e) whole
-        | inr j ↦ go (cutFor s l c ps) refl j
+        elim (List·Memᴰ·cases-cons i) [
+          | inl e ↦ subst (λ (n : ℕ). Under s l c ps n) (sym e) whole
+          | inr j ↦ go (cutFor s l c ps) refl j
         ]
       where
         go : (o : Option ℕ) → cutFor s l c ps ≡ o → List·Memᴰ m (listOf o) → Under s l c ps m

@@ -122,9 +122,9 @@ lookup-enough s law = record {
   once = found-once s (linePrefix (s .line)) law;
   top = λ x m. found-mem s (linePrefix (s .line)) m;
   all = λ r k a i j w.
-    let (rest, e) = leads s w refl in
-    let (p, q) = begins 4 (leading (s .parts r k)) rest in
-    found-has s (linePrefix (s .line)) (length (rulePrefix (s .parts r k))) (top-has s i j) (rw (← e) q) (rw (← e) p)
+      let (rest, e) = leads s w refl in
+      let (p, q) = begins 4 (leading (s .parts r k)) rest in
+      found-has s (linePrefix (s .line)) (length (rulePrefix (s .parts r k))) (top-has s i j) (rw (← e) q) (rw (← e) p);
 }
 
 -- ---- the theorems

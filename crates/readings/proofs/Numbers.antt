@@ -92,6 +92,7 @@ module _ (order : Scene → List (ℕ × ℕ)) (t line sheet : List ℕ) (budget
           (λ h. walk-case (record { table = e; bytes = f; extents = g; visits = h }) outcome refl)
           (λ h. (5, visits e f g h))
           (tested (budgetFits budget))
+
       by-line : tableFits t ≡ true → (o : Option ℕ) → faultAt line ≡ o → (n : ℕ) × Case n
       by-line e (some p) f = (3, bytes p e f)
       by-line e none f = ⊎-elim (λ g. by-budget e f g) (λ g. (4, extents e f g)) (tested (sheetFits sheet (length line)))

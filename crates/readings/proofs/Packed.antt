@@ -29,10 +29,10 @@ unfolding sceneOf
 lawful t line sheet good = record {
   cut-at = λ x l c p. Cuts.cut-at line x (walkerAt line l c) (held-within line (record { cursor = c; limit = l })) p;
   cut-within = λ x l c p h e.
-    let q : CutAt line x (walkerAt line l c) p = Cuts.cut-at line x (walkerAt line l c) (held-within line (record { cursor = c; limit = l })) p .0 e in
-    past-cursor line l c p (q .from) (q .below);
+      let q : CutAt line x (walkerAt line l c) p = Cuts.cut-at line x (walkerAt line l c) (held-within line (record { cursor = c; limit = l })) p .0 e in
+      past-cursor line l c p (q .from) (q .below);
   free-within = λ c l e q. end-between sheet (length line) good Free c l e q;
   greedy-within = λ c l e q. end-between sheet (length line) good Greedy c l e q;
   rules-apart = λ r. range-apart 0 (length (rulesetOf t r .rules));
-  tops-apart = kept-apart (isTop t) (λ (r : ℕ). r) (range 0 (rulesetsIn t)) (range-apart 0 (rulesetsIn t))
+  tops-apart = kept-apart (isTop t) (λ (r : ℕ). r) (range 0 (rulesetsIn t)) (range-apart 0 (rulesetsIn t));
 }

@@ -48,9 +48,9 @@ module _ {A B : Type 0} (f : A → Plan (List B)) where
   each-source [] h m = absurd (nothing h m)
   each-source (x ∷ xs) h m =
       let (a, b, p, q, e) = each-parts x xs h in
-      elim (List·Memᴰ·append-cases a (rw (← e) at m))
-      [ inl i ↦ (x, List·Memᴰ·head refl, a, p, i)
-      | inr j ↦ let (y, n, r, g, k) = each-source xs q j in (y, List·Memᴰ·tail n, r, g, k)
+      elim (List·Memᴰ·append-cases a (rw (← e) at m)) [
+        | inl i ↦ (x, List·Memᴰ·head refl, a, p, i)
+        | inr j ↦ let (y, n, r, g, k) = each-source xs q j in (y, List·Memᴰ·tail n, r, g, k)
       ]
 
   pub each-has : (xs : List A) {rs : List B} {x : A} {z : B} → Gives (each xs f) rs → List·Memᴰ x xs
@@ -60,9 +60,9 @@ module _ {A B : Type 0} (f : A → Plan (List B)) where
   each-has (y ∷ xs) h m g =
       let (a, b, p, q, e) = each-parts y xs h in
       rw (← e)
-      (elim (List·Memᴰ·cases-cons m)
-      [ inl i ↦ Memᴰ·append-left b (g a (rw i p))
-      | inr j ↦ Memᴰ·append-right a (each-has xs q j g)
+      (elim (List·Memᴰ·cases-cons m) [
+        | inl i ↦ Memᴰ·append-left b (g a (rw i p))
+        | inr j ↦ Memᴰ·append-right a (each-has xs q j g)
       ])
 
   -- each once, if a member tells its source

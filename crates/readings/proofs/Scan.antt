@@ -21,7 +21,7 @@ pub record Enough (s : Scene) (xs : List (ℕ × ℕ)) : Type 0 where
   pub once : Apart (λ (x : ℕ × ℕ). x) xs
   pub top : (x : ℕ × ℕ) → List·Memᴰ x xs → List·Memᴰ x (topPairs s)
   pub all : (r k : ℕ) (a : Args) → List·Memᴰ r (s .tops) → List·Memᴰ k (s .rules r)
-    → From s (length (s .line)) (s .parts r k) 0 a (length (s .line)) → List·Memᴰ (r, k) xs
+      → From s (length (s .line)) (s .parts r k) 0 a (length (s .line)) → List·Memᴰ (r, k) xs
 
 module _ (s : Scene) (law : Lawful s) (xs : List (ℕ × ℕ)) (enough : Enough s xs) where
   tried : {is : List Match} {t : Tree} → Gives (tries s xs) is → Reading s t → List·Memᴰ t (map tree is)
@@ -32,16 +32,16 @@ module _ (s : Scene) (law : Lawful s) (xs : List (ℕ × ℕ)) (enough : Enough 
   unfolding tries
   tries-readings {is} g = record {
     only = λ m.
-      let (i, n, q) = Memᴰ·of-map tree is m in
-      let (x, j, rs, h, k) = each-source (trial s) xs g n in
-      let (a, e, w) = trial-sound s law x h k in
-      let (jr, jk) = top-mem s (enough .top x j) in
-      subst (Reading s) (sym e ∙ q) (reading jr jk w);
+        let (i, n, q) = Memᴰ·of-map tree is m in
+        let (x, j, rs, h, k) = each-source (trial s) xs g n in
+        let (a, e, w) = trial-sound s law x h k in
+        let (jr, jk) = top-mem s (enough .top x j) in
+        subst (Reading s) (sym e ∙ q) (reading jr jk w);
     every = λ r. tried g r;
     once = apart-map tree (λ (t : Tree). t) tree (λ x y q. q) is
-      (each-once (trial s) (λ (x : ℕ × ℕ). x) tree number-of xs
-      (λ x rs i _ h m. let (a, e, w) = trial-sound s law x h m in ap number-of e)
-      g (enough .once) (λ x rs h. trial-once s law x h))
+        (each-once (trial s) (λ (x : ℕ × ℕ). x) tree number-of xs
+        (λ x rs i _ h m. let (a, e, w) = trial-sound s law x h m in ap number-of e)
+        g (enough .once) (λ x rs h. trial-once s law x h));
   }
 
 pub scan-enough : (s : Scene) → Lawful s → Enough s (topPairs s)
@@ -63,10 +63,10 @@ tries-done s xs once top v {w} {u} {is} e =
     let (c, d) = each-cost (trial s) (topPairs s) g in
     let (c′, d′) = each-cost (trial s) xs g′ in
     let p = total-fewer (λ x. visits (trial s x)) xs (topPairs s) once top in
-    let q = total-fewer (λ x. records (trial s x)) xs (topPairs s) once top in
-    ( v - visits (tries s xs)
-    , records (tries s xs) + 0
-    , js
-    , run-enough (tries s xs) v (v - visits (tries s xs)) 0 g′ (omega arith) (omega arith)
-    , omega arith
+    let q = total-fewer (λ x. records (trial s x)) xs (topPairs s) once top in (
+      v - visits (tries s xs),
+      records (tries s xs) + 0,
+      js,
+      run-enough (tries s xs) v (v - visits (tries s xs)) 0 g′ (omega arith) (omega arith),
+      omega arith,
     )

@@ -74,7 +74,7 @@ module _ (s : Scene) (below : Below) (fin : ℕ → Bool) where
       let (is, gi, h₁) = then-gives _ (each (limits s l c ps) (λ m. below r m c)) h in
       let t = then-cost (each (limits s l c ps) (λ m. below r m c)) (λ is. each (firsts sameMatch is) (λ i. keep (mapped (addNest s l c i) (walk s below fin ps l (i .1))))) gi .1 in
       let k = each-paid (λ i. keep (mapped (addNest s l c i) (walk s below fin ps l (i .1)))) (firsts sameMatch is)
-          (λ i rs h. omega (arith, mapped-paid (addNest s l c i) (walk s below fin ps l (i .1)) (walk-paid ps l (i .1)) rs h)) rs h₁ in
+      (λ i rs h. omega (arith, mapped-paid (addNest s l c i) (walk s below fin ps l (i .1)) (walk-paid ps l (i .1)) rs h)) rs h₁ in
       omega (arith, t, k)
 
 -- ---- a walk took at least the records of each of its trees
@@ -108,14 +108,14 @@ module _ (s : Scene) (below : Below) (ok : Stored below) (fin : ℕ → Bool) wh
       let (lm, jm, ri, g₂, ni) = each-source (λ m. below r m c) (limits s l c ps) gi (firsts-mem sameMatch is j) in
       let t = then-cost (each (limits s l c ps) (λ m. below r m c)) (λ is. each (firsts sameMatch is) (λ i. keep (mapped (addNest s l c i) (walk s below fin ps l (i .1))))) gi .1 in
       rw (← q)
-      (omega
-      ( arith
-      , t
-      , ok r lm c ri i g₂ ni
-      , each-records (λ m. below r m c) (limits s l c ps) gi jm
-      , each-records _ (firsts sameMatch is) h₁ j
-      , mapped-records (addNest s l c i) (walk s below fin ps l (i .1)) g
-      , walk-stored ps l (i .1) g₁ k
+      (omega (
+        arith,
+        t,
+        ok r lm c ri i g₂ ni,
+        each-records (λ m. below r m c) (limits s l c ps) gi jm,
+        each-records _ (firsts sameMatch is) h₁ j,
+        mapped-records (addNest s l c i) (walk s below fin ps l (i .1)) g,
+        walk-stored ps l (i .1) g₁ k,
       ))
 
 -- ---- and lists none that is deeper than it may go
@@ -152,11 +152,11 @@ module _ (s : Scene) where
       let (k, i, rs, h, n₁) = each-source _ (s .rules r) g n in
       let (xs, h₁, x, j, q) = mapped-source (named r k) (walk s below (λ e. true) (s .parts r k) m c) h n₁ in
       rw (← q)
-      (omega
-      ( arith
-      , each-records _ (s .rules r) g i
-      , mapped-records (named r k) (walk s below (λ e. true) (s .parts r k) m c) h
-      , walk-stored s below ok (λ e. true) (s .parts r k) m c h₁ j
+      (omega (
+        arith,
+        each-records _ (s .rules r) g i,
+        mapped-records (named r k) (walk s below (λ e. true) (s .parts r k) m c) h,
+        walk-stored s below ok (λ e. true) (s .parts r k) m c h₁ j,
       ))
 
   under-stored : (d : ℕ) → Stored (under s d)
@@ -189,11 +189,11 @@ module _ (s : Scene) (xs : List (ℕ × ℕ)) {is : List Match} (g : Gives (trie
       let (x, j, rs, h, n) = each-source (trial s) xs g m in
       let (ys, h₁, y, k, q) = mapped-source (named (x .0) (x .1)) _ h n in
       rw (← q)
-      (omega
-      ( arith
-      , each-records (trial s) xs g j
-      , mapped-records (named (x .0) (x .1)) _ h
-      , walk-stored s (under s depths) (under-stored s depths) (eqb (length (s .line))) (s .parts (x .0) (x .1)) (length (s .line)) 0 h₁ k
+      (omega (
+        arith,
+        each-records (trial s) xs g j,
+        mapped-records (named (x .0) (x .1)) _ h,
+        walk-stored s (under s depths) (under-stored s depths) (eqb (length (s .line))) (s .parts (x .0) (x .1)) (length (s .line)) 0 h₁ k,
       ))
 
   pub tries-shallow : {i : Match} → List·Memᴰ i is → treeDepth (i .0) ≤ depths

@@ -54,13 +54,13 @@ module _ (t line sheet : List ℕ) (budget : ℕ) (b : List ℕ) (ok : Accepted 
       let law = lawful t line sheet (ok .extents) in
       let (left′, used′, ms′, e′, less) = lookup-done s law budget e in
       let there = walked-through prefixed t line sheet budget b ok left′ used′ ms′ e′ in
-      let here = walked-through topPairs t line sheet budget b ok left used ms e in
-      ( subst (Demand3 s b) (sym there) (demand s (budget - left′) b (map tree ms′) (lookup-readings s law budget e′))
-      , omega
-      ( arith
-      , ap (λ (r : Told). r .visits) there ∙ visits-told s (budget - left′) b (map tree ms′)
-      , ap (λ (r : Told). r .visits) here ∙ visits-told s (budget - left) b (map tree ms)
-      )
+      let here = walked-through topPairs t line sheet budget b ok left used ms e in (
+        subst (Demand3 s b) (sym there) (demand s (budget - left′) b (map tree ms′) (lookup-readings s law budget e′)),
+        omega (
+          arith,
+          ap (λ (r : Told). r .visits) there ∙ visits-told s (budget - left′) b (map tree ms′),
+          ap (λ (r : Told). r .visits) here ∙ visits-told s (budget - left) b (map tree ms),
+        ),
       )
 
 -- entries whose start lies above their limit change no answer
@@ -75,7 +75,7 @@ module _ (t line a b : List ℕ) (alike : Alike (length line) a b) where
     free = λ c l. same-free alike c l i;
     greedy = λ c l. same-greedy alike c l i;
     IsCut = λ x l c p. CutAt line x (walkerAt line l c) p;
-    cut = λ x l c. cut line x (walkerAt line l c)
+    cut = λ x l c. cut line x (walkerAt line l c);
   }
 
   pub unread : (order : Scene → List (ℕ × ℕ)) (budget : ℕ) (buffer : List ℕ) → callWith order t line a budget buffer ≡ callWith order t line b budget buffer

@@ -27,11 +27,11 @@ mutual
   same-args (nest x y t a) (nest z w u b) h =
       let spans-tree = and-left (eqb x z && eqb y w && sameTree t u) (sameArgs a b) h in
       let spans = and-left (eqb x z && eqb y w) (sameTree t u) spans-tree in
-      cc
-      ( eqb-true x z (and-left (eqb x z) (eqb y w) spans)
-      , eqb-true y w (and-right (eqb x z) (eqb y w) spans)
-      , same-tree t u (and-right (eqb x z && eqb y w) (sameTree t u) spans-tree)
-      , same-args a b (and-right (eqb x z && eqb y w && sameTree t u) (sameArgs a b) h)
+      cc (
+        eqb-true x z (and-left (eqb x z) (eqb y w) spans),
+        eqb-true y w (and-right (eqb x z) (eqb y w) spans),
+        same-tree t u (and-right (eqb x z && eqb y w) (sameTree t u) spans-tree),
+        same-args a b (and-right (eqb x z && eqb y w && sameTree t u) (sameArgs a b) h),
       )
 
 mutual

@@ -54,9 +54,9 @@ same-end (nested p k t i u) (nested q n w j v) = same-end u v
 
 pub record Lists (s : Scene) (below : Below) : Type 0 where
   pub sound : (r m c : ℕ) {is : List Match} {i : Match} → Gives (below r m c) is → List·Memᴰ i is
-    → (k : ℕ) × (b : Args) × (i .0 ≡ node r k b) × List·Memᴰ k (s .rules r) × From s m (s .parts r k) c b (i .1)
+      → (k : ℕ) × (b : Args) × (i .0 ≡ node r k b) × List·Memᴰ k (s .rules r) × From s m (s .parts r k) c b (i .1)
   pub complete : (r m c : ℕ) {is : List Match} {k e : ℕ} {b : Args} → Gives (below r m c) is → List·Memᴰ k (s .rules r)
-    → From s m (s .parts r k) c b e → List·Memᴰ (node r k b, e) is
+      → From s m (s .parts r k) c b e → List·Memᴰ (node r k b, e) is
 
 module _ (s : Scene) (law : Lawful s) (below : Below) (ok : Lists s below) (fin : ℕ → Bool) where
   pub walk-sound : (ps : List Part) (l c : ℕ) {rs : List Found} {x : Found} → Gives (walk s below fin ps l c) rs → List·Memᴰ x rs
@@ -171,20 +171,20 @@ module _ (s : Scene) (law : Lawful s) where
   unfolding rulesetWalk
   ruleset-lists below ok = record {
     sound = λ r m c g n.
-      let (k, i, rs, h, n₁) = each-source _ (s .rules r) g n in
-      let (xs, h₁, x, j, q) = mapped-source (named r k) (walk s below (λ e. true) (s .parts r k) m c) h n₁ in
-      let (w, f) = walk-sound s law below ok (λ e. true) (s .parts r k) m c h₁ j in
-      (k, x .0, ap tree (sym q), i, subst (λ (e : ℕ). From s m (s .parts r k) c (x .0) e) (ap (λ (y : Match). y .1) q) w);
+        let (k, i, rs, h, n₁) = each-source _ (s .rules r) g n in
+        let (xs, h₁, x, j, q) = mapped-source (named r k) (walk s below (λ e. true) (s .parts r k) m c) h n₁ in
+        let (w, f) = walk-sound s law below ok (λ e. true) (s .parts r k) m c h₁ j in
+        (k, x .0, ap tree (sym q), i, subst (λ (e : ℕ). From s m (s .parts r k) c (x .0) e) (ap (λ (y : Match). y .1) q) w);
     complete = λ r m c {is} {k} {e} {b} g i w.
-      each-has _ (s .rules r) g i
-      (λ rs h. mapped-has (named r k) (walk s below (λ e. true) (s .parts r k) m c) h (λ xs h₁. walk-complete s law below ok (λ e. true) w refl h₁))
+        each-has _ (s .rules r) g i
+        (λ rs h. mapped-has (named r k) (walk s below (λ e. true) (s .parts r k) m c) h (λ xs h₁. walk-complete s law below ok (λ e. true) w refl h₁));
   }
 
   under-lists : (d : ℕ) → Lists s (under s d)
   unfolding under
   under-lists zero = record {
     sound = λ r m c g n. absurd (Option·none-ne-some _ g);
-    complete = λ r m c g i w. absurd (Option·none-ne-some _ g)
+    complete = λ r m c g i w. absurd (Option·none-ne-some _ g);
   }
   under-lists (suc d) = ruleset-lists (under s d) (under-lists d)
 

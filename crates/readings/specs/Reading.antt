@@ -48,10 +48,10 @@ SamePlace s l d e = (p : ℕ) × Useful s l d p × Useful s l e p
 pub data Candidate (s : Scene) (l c : ℕ) (ps : List Part) : ℕ → Type 0 where
   freely : {e : ℕ} → s .free c l ≡ some e → Candidate s l c ps e
   cut-short : {e m : ℕ} → Cut-for s l c ps m → s .free c m ≡ some e
-    → ((d : ℕ) → s .free c l ≡ some d → SamePlace s l d e → ⊥) → Candidate s l c ps e
+      → ((d : ℕ) → s .free c l ≡ some d → SamePlace s l d e → ⊥) → Candidate s l c ps e
   greedily : {e : ℕ} → s .greedy c l ≡ some e
-    → ((d : ℕ) → s .free c l ≡ some d → SamePlace s l d e → ⊥)
-    → ((m d : ℕ) → Cut-for s l c ps m → s .free c m ≡ some d → SamePlace s l d e → ⊥) → Candidate s l c ps e
+      → ((d : ℕ) → s .free c l ≡ some d → SamePlace s l d e → ⊥)
+      → ((m d : ℕ) → Cut-for s l c ps m → s .free c m ≡ some d → SamePlace s l d e → ⊥) → Candidate s l c ps e
 
 -- Nested: under l and then under the cut if there is one
 pub data Under (s : Scene) (l c : ℕ) (ps : List Part) : ℕ → Type 0 where
@@ -70,16 +70,16 @@ pub data From (s : Scene) : ℕ → List Part → ℕ → Args → ℕ → Type 
   exact : {l c d e x : ℕ} {ps : List Part} {a : Args} → Exactly-at s l c x d → From s l ps d a e → From s l (Exact x ∷ ps) c a e
   whitespace : {l c e : ℕ} {ps : List Part} {a : Args} → Gap s l c → From s l ps c a e → From s l (Whitespace ∷ ps) c a e
   expression : {l c d e f : ℕ} {ps : List Part} {a : Args} → Candidate s l c ps d → Span s l c f d → From s l ps d a e
-    → From s l (Expression ∷ ps) c (expr f d a) e
+      → From s l (Expression ∷ ps) c (expr f d a) e
   -- every rule of the ruleset need not reach the limit; the limit goes back to l
   nested : {l m c d e f r k : ℕ} {ps : List Part} {a b : Args} → Under s l c ps m → List·Memᴰ k (s .rules r)
-    → From s m (s .parts r k) c b d → Span s l c f d → From s l ps d a e
-    → From s l (Nested r ∷ ps) c (nest f d (node r k b) a) e
+      → From s m (s .parts r k) c b d → Span s l c f d → From s l ps d a e
+      → From s l (Nested r ∷ ps) c (nest f d (node r k b) a) e
 
 -- A reading is a tree permitted by these rules from any top ruleset. A top rule must end at the line's end.
 pub data Reading (s : Scene) : Tree → Type 0 where
   reading : {r k : ℕ} {a : Args} → List·Memᴰ r (s .tops) → List·Memᴰ k (s .rules r)
-    → From s (length (s .line)) (s .parts r k) 0 a (length (s .line)) → Reading s (node r k a)
+      → From s (length (s .line)) (s .parts r k) 0 a (length (s .line)) → Reading s (node r k a)
 
 -- these trees are the readings, each once, and nothing else
 pub record Readings (s : Scene) (ts : List Tree) : Type 0 where

@@ -62,5 +62,5 @@ sceneOf t line sheet = record {
   free = λ c l. freeEnd sheet (length line) c l;
   greedy = λ c l. greedyEnd sheet (length line) c l;
   IsCut = λ x l c p. CutAt line x (walkerAt line l c) p;
-  cut = λ x l c. cut line x (walkerAt line l c)
+  cut = λ x l c. cut line x (walkerAt line l c);
 }

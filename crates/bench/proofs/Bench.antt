@@ -1,0 +1,54 @@
+-- Document 01's bench table: every case computed from the definitions, and all of them together.
+use mathlib.Core.Path.{_≡_, refl}
+use mathlib.Core.List.{List, [], _∷_, flatMap}
+use Prim.Native.Nat.{ℕ}
+use Rattle.plain.specs.Below.{everyBelow, sumBelow, countBelow}
+use Rattle.plain.specs.Lists.{range, keepIf, some-of, count, listed}
+use Rattle.syntax.specs.Token.{isWhitespace, lowered}
+use Rattle.syntax.specs.Walker.{held, over, skipped, usefulFrom, useful, gap}
+use Rattle.syntax.specs.Cut.{isWanted, isStray, nesting, passedTo, takenIn, turnOf, searched, cutFrom, cut}
+use Rattle.syntax.specs.Line.{isAllowed, firstBad, endsOpen, faultAt}
+use Rattle.defs.specs.Table.{wordAt, flagAt, fieldAt, partWordAt, partOf, ruleFrom, ruleWords, ruleParts, inRange, sizesFit, lengthFits, flagsFit, rulesetBefore, rulesetFits, rulesetsFit, rangeFits, rangesFit, countsFit, parametersIn, parametersFit, isPart, partsFit, tableFits}
+use Rattle.defs.specs.Ruledef.{recordsOf, isTop, rulesetOf}
+use Rattle.defs.specs.RuledefMap.{leading, rulePrefix, linePrefix}
+use Rattle.extents.specs.Sheet.{sized, entryAt, entryFits, fitsAt, rowFits, halfFits, sheetFits, readable, endIn}
+use Rattle.readings.specs.Scene.{lookahead, sceneOf}
+use Rattle.readings.specs.Plan.{run, _then_, each, mapped}
+use Rattle.readings.specs.Walk.{past, cutFor, candidates, anySame, fresh, firsts, ends, limits, walk, rulesetWalk, under, trial, tries, topPairs, scan}
+use Rattle.readings.specs.Lookup.{withPrefix, foundPairs, lookup}
+use Rattle.readings.specs.Answer.{exactParts, greatest, greatestCount, best, allWords, wordsOf}
+use Rattle.readings.specs.Call.{budgetFits, callWith}
+use Rattle.resolver.specs.Outcome.{ofKind, outcomeOf, isBad, outcomesOf, wordOf, isGuess, isResolved, isKnown, sizeOf, asGuess}
+use Rattle.resolver.specs.Selection.{marked, lesser, leastSize, sameSize, hasSize, indicesOf, choiceOf, answerOn, answerOf, selected}
+use Rattle.bench.specs.Cases.{cases}
+
+pub bench :
+    cases
+    ≡ (0 ∷ 15 ∷ 11 ∷ 0 ∷ 1 ∷ 4 ∷ 0 ∷ 1 ∷ 1 ∷ 1 ∷ 4 ∷ 5 ∷ 1 ∷ 0 ∷ 0 ∷ 9 ∷ [])
+    ∷ (0 ∷ 15 ∷ 11 ∷ 0 ∷ 1 ∷ 4 ∷ 0 ∷ 1 ∷ 1 ∷ 1 ∷ 4 ∷ 5 ∷ 1 ∷ 0 ∷ 0 ∷ 9 ∷ [])
+    ∷ (6 ∷ 14 ∷ 0 ∷ 0 ∷ 9 ∷ 9 ∷ 9 ∷ 9 ∷ 9 ∷ 9 ∷ 9 ∷ 9 ∷ 9 ∷ 9 ∷ 9 ∷ 9 ∷ [])
+    ∷ (0 ∷ 15 ∷ 11 ∷ 0 ∷ 1 ∷ 4 ∷ 0 ∷ 1 ∷ 1 ∷ 1 ∷ 4 ∷ 5 ∷ 1 ∷ 0 ∷ 0 ∷ 9 ∷ [])
+    ∷ (1 ∷ [])
+    ∷ (2 ∷ [])
+    ∷ (5 ∷ [])
+    ∷ ([])
+    ∷ ([])
+    ∷ (1 ∷ [])
+    ∷ (3 ∷ [])
+    ∷ ([])
+    ∷ (109 ∷ 111 ∷ 118 ∷ 112 ∷ [])
+    ∷ (109 ∷ 111 ∷ 118 ∷ [])
+    ∷ (0 ∷ 5 ∷ 5 ∷ 0 ∷ 1 ∷ 3 ∷ 0 ∷ 0 ∷ 0 ∷ 9 ∷ 9 ∷ 9 ∷ 9 ∷ 9 ∷ 9 ∷ 9 ∷ [])
+    ∷ (1 ∷ 2 ∷ 0 ∷ 0 ∷ 9 ∷ 9 ∷ 9 ∷ 9 ∷ 9 ∷ 9 ∷ 9 ∷ 9 ∷ 9 ∷ 9 ∷ 9 ∷ 9 ∷ [])
+    ∷ (0 ∷ 4 ∷ 5 ∷ 0 ∷ 1 ∷ 2 ∷ 0 ∷ 0 ∷ 0 ∷ 9 ∷ 9 ∷ 9 ∷ 9 ∷ 9 ∷ 9 ∷ 9 ∷ [])
+    ∷ (0 ∷ 3 ∷ 5 ∷ 0 ∷ 1 ∷ 2 ∷ 0 ∷ 0 ∷ 0 ∷ 9 ∷ 9 ∷ 9 ∷ 9 ∷ 9 ∷ 9 ∷ 9 ∷ [])
+    ∷ (0 ∷ 3 ∷ 5 ∷ 0 ∷ 1 ∷ 2 ∷ 0 ∷ 0 ∷ 0 ∷ 9 ∷ 9 ∷ 9 ∷ 9 ∷ 9 ∷ 9 ∷ 9 ∷ [])
+    ∷ (0 ∷ 4 ∷ 8 ∷ 0 ∷ 1 ∷ 2 ∷ 0 ∷ 0 ∷ 1 ∷ 0 ∷ 0 ∷ 2 ∷ 9 ∷ 9 ∷ 9 ∷ 9 ∷ [])
+    ∷ (0 ∷ 1 ∷ 5 ∷ 0 ∷ 1 ∷ 0 ∷ 0 ∷ 0 ∷ 0 ∷ 9 ∷ 9 ∷ 9 ∷ 9 ∷ 9 ∷ 9 ∷ 9 ∷ [])
+    ∷ (0 ∷ 1 ∷ 135 ∷ 71 ∷ 1 ∷ 9 ∷ 9 ∷ [])
+    ∷ (0 ∷ 1 ∷ 135 ∷ 71 ∷ 1 ∷ 9 ∷ 9 ∷ [])
+    ∷ (13 ∷ 2 ∷ 134 ∷ 70 ∷ 70 ∷ 9 ∷ 9 ∷ 9 ∷ [])
+    ∷ (0 ∷ 2 ∷ 134 ∷ 70 ∷ 70 ∷ 1 ∷ 2 ∷ 9 ∷ [])
+    ∷ []
+unfolding cases flatMap everyBelow sumBelow countBelow range keepIf some-of count listed isWhitespace lowered held over skipped usefulFrom useful gap isWanted isStray nesting passedTo takenIn turnOf searched cutFrom cut isAllowed firstBad endsOpen faultAt wordAt flagAt fieldAt partWordAt partOf ruleFrom ruleWords ruleParts inRange sizesFit lengthFits flagsFit rulesetBefore rulesetFits rulesetsFit rangeFits rangesFit countsFit parametersIn parametersFit isPart partsFit tableFits recordsOf isTop rulesetOf leading rulePrefix linePrefix sized entryAt entryFits fitsAt rowFits halfFits sheetFits readable endIn lookahead sceneOf run _then_ each mapped past cutFor candidates anySame fresh firsts ends limits walk rulesetWalk under trial tries topPairs scan withPrefix foundPairs lookup exactParts greatest greatestCount best allWords wordsOf budgetFits callWith ofKind outcomeOf isBad outcomesOf wordOf isGuess isResolved isKnown sizeOf asGuess marked lesser leastSize sameSize hasSize indicesOf choiceOf answerOn answerOf selected
+bench = refl

@@ -1,0 +1,16 @@
+pub mod Words
+pub mod Passed
+pub mod Tally
+pub mod Kept
+pub mod Least
+pub mod Replaced
+pub mod Written
+pub mod Marks
+pub mod Cases
+pub mod OnlyLeast
+pub mod LastPass
+pub mod Call
+pub mod Guesses
+pub mod Again
+pub mod Guessing
+pub mod Tight

@@ -1,0 +1,4 @@
+pub mod Outcome
+pub mod Selection
+pub mod LastPass
+pub mod Passes
