@@ -15,3 +15,4 @@ pub mod Numbers
 pub mod Spans
 pub mod Sizes
 pub mod Bounds
+pub mod Tight
