@@ -5,7 +5,7 @@ use mathlib.Core.Logic.{_⊎_, inl, inr}
 use mathlib.Core.Bool.{Bool, true, false, not, _&&_}
 use mathlib.Core.Option.{Option, none}
 use mathlib.Core.List.{List, [], _∷_, _++_, map, List·Memᴰ, List·Memᴰ·head, List·Memᴰ·tail, List·Memᴰ·cases-cons, List·Memᴰ·append-cases, List·Memᴰ·not-nil, Memᴰ·of-map}
-use Prim.Native.Nat.{ℕ, zero, suc, _+_, _*_, _≤_, _<_, min}
+use Prim.Native.Nat.{ℕ, zero, suc, _+_, _*_, _-_, _≤_, _<_, min}
 use native.Mathlib.Omega.{arith}
 use lib.Dec.{eqb}
 use lib.ListN.{length, length-append, length-map}
@@ -32,7 +32,7 @@ use Rattle.readings.specs.Reading.{Span, From, finish, exact, whitespace
 use Rattle.readings.specs.Plan.{Outcome, done, run, records, room}
 use Rattle.readings.specs.Walk.{Match, topPairs, tries, scan, depths}
 use Rattle.readings.specs.Answer.{exactCount, greatestCount, greatest, best, argCount, treeWords, argWords, allWords, wordsOf, answerWords}
-use Rattle.readings.specs.Call.{Told, tree}
+use Rattle.readings.specs.Call.{Told, tree, callWith}
 use Rattle.readings.specs.Measure.{treeRecords, argRecords, treeDepth, solidsBefore, solids}
 use Rattle.readings.proofs.Runs.{run-done, run-room}
 use Rattle.readings.proofs.Packed.{lawful}
@@ -40,7 +40,8 @@ use Rattle.readings.proofs.Scan.{Enough, scan-enough, tries-readings}
 use Rattle.readings.proofs.Best.{reached}
 use Rattle.readings.proofs.Spans.{exact-within, candidate-within, under-within, from-within, few-exact}
 use Rattle.readings.proofs.Sizes.{tries-paid, tries-stored, tries-shallow}
-use Rattle.readings.proofs.Calls.{Accepted}
+use Rattle.readings.proofs.Calls.{Accepted, bad-table, bad-line, bad-sheet, bad-budget, stopped, walked-through, fits, short}
+use Rattle.readings.proofs.Numbers.{Case, table, bytes, extents, visits, walk, none-found, too-long, found, exactly}
 
 -- ---- how many words
 
@@ -219,3 +220,36 @@ deepest s law v {w} {u} {ms} e r =
     let g = run-done (tries s (topPairs s)) v 0 e .0 in
     let (i, n, q) = Memᴰ·of-map tree ms (tries-readings s law (topPairs s) (scan-enough s law) g .every r) in
     subst (λ (x : Tree). treeDepth x ≤ depths) q (tries-shallow s (topPairs s) g n)
+
+-- ---- the words that any call needs, accepted or not
+
+module _ (order : Scene → List (ℕ × ℕ)) (enough : (s : Scene) → Lawful s → Enough s (order s)) (t line sheet : List ℕ) (budget : ℕ) (b : List ℕ) where
+  pub call-words : callWith order t line sheet budget b .words < 4294967296
+  call-words = go (exactly order t line sheet budget b (callWith order t line sheet budget b .number) .0 refl)
+    where
+      s : Scene
+      s = sceneOf t line sheet
+
+      few : Accepted t line sheet budget → (left used : ℕ) (m : Match) (ms : List Match) → run (tries s (order s)) budget 0 ≡ done left used (m ∷ ms)
+          → length (answerWords s (tree m ∷ map tree ms)) < 4294967296
+      few a left used m ms e = words-few s (law a) (small t line sheet budget a) (order s) (enough s (law a)) budget e
+        where
+          law : Accepted t line sheet budget → Lawful s
+          law a = lawful t line sheet (a .extents)
+
+      none-needed : {r : Told} → callWith order t line sheet budget b ≡ r → r .words ≡ 0 → callWith order t line sheet budget b .words < 4294967296
+      none-needed e z = omega (arith, ap (λ (r : Told). r .words) e, z)
+
+      go : {n : ℕ} → Case order t line sheet budget b n → callWith order t line sheet budget b .words < 4294967296
+      go (table e) = none-needed (bad-table order t line sheet budget b e) refl
+      go (bytes p e f) = none-needed (bad-line order t line sheet budget b p e f) refl
+      go (extents e f g) = none-needed (bad-sheet order t line sheet budget b e f g) refl
+      go (visits e f g h) = none-needed (bad-budget order t line sheet budget b e f g h) refl
+      go (walk {n = n} left a e) = none-needed (stopped order t line sheet budget b a n left e) refl
+      go (none-found left used a e) = none-needed (walked-through order t line sheet budget b a left used [] e) refl
+      go (too-long left used m ms a e h) =
+          let q = ap (λ (r : Told). r .words) (walked-through order t line sheet budget b a left used (m ∷ ms) e ∙ short s (budget - left) b (answerWords s (tree m ∷ map tree ms)) h) in
+          omega (arith, q, few a left used m ms e)
+      go (found left used m ms a e h) =
+          let q = ap (λ (r : Told). r .words) (walked-through order t line sheet budget b a left used (m ∷ ms) e ∙ fits s (budget - left) b (answerWords s (tree m ∷ map tree ms)) h) in
+          omega (arith, q, few a left used m ms e)
