@@ -1,7 +1,6 @@
 -- Document 01's bench table: every case computed from the definitions, and all of them together.
 use mathlib.Core.Path.{_≡_, refl}
-use mathlib.Core.List.{List, [], _∷_, flatMap}
-use Prim.Native.Nat.{ℕ}
+use mathlib.Core.List.{[], _∷_, flatMap}
 use Rattle.plain.specs.Below.{everyBelow, sumBelow, countBelow}
 use Rattle.plain.specs.Lists.{range, keepIf, some-of, count, listed}
 use Rattle.syntax.specs.Token.{isWhitespace, lowered}

@@ -1,8 +1,8 @@
 -- Document 01's twelve bench cases, as calls of the definitions. Each gives a list of numbers, so that all stand in one table.
-use mathlib.Core.Bool.{Bool, true, false}
+use mathlib.Core.Bool.{true, false}
 use mathlib.Core.Option.{Option, none, some}
 use mathlib.Core.List.{List, [], _∷_, _++_}
-use Prim.Native.Nat.{ℕ, zero, suc}
+use Prim.Native.Nat.{ℕ}
 use lib.ListN.{length, replicate, set}
 use Rattle.syntax.specs.Cut.{cut}
 use Rattle.defs.specs.RuledefMap.{linePrefix, rulePrefix}

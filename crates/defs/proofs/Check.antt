@@ -1,8 +1,8 @@
 -- The table's check: each sentence's test, as the code makes it, and the loops that make it of every record or word.
-use mathlib.Core.Path.{_≡_, refl, sym, ap, ap₂, _∙_, subst}
-use mathlib.Core.Bool.{Bool, true, false, not, _&&_, _||_, or-false}
+use mathlib.Core.Path.{_≡_, refl, sym, ap, ap₂, _∙_}
+use mathlib.Core.Bool.{Bool, true, false, not, _&&_, or-false}
 use mathlib.Core.List.{List}
-use Prim.Native.Nat.{ℕ, zero, suc, _+_, _*_, _-_, _≤_, _<_, min}
+use Prim.Native.Nat.{ℕ, suc, _+_, _*_, _-_, _≤_, _<_}
 use native.Mathlib.Numerals.{add-one}
 use native.Mathlib.Omega.{arith}
 use lib.Dec.{eqb, leb, ltb}
@@ -13,9 +13,8 @@ use Rattle.plain.specs.Below.{everyBelow, sumBelow}
 use Rattle.plain.specs.Lists.{count}
 use Rattle.plain.proofs.Tests.{and-left, and-right, and-both}
 use Rattle.plain.proofs.Below.{every-fewer, every-fails}
-use Rattle.defs.specs.Table.{wordAt, rulesetsIn, recordsIn, partsIn, partsFrom, flagAt, fieldAt, rulesetAt, firstAt, countAt, partWordAt, partOf, ruleSpan, partsBetween, isParameter}
-use Rattle.defs.specs.Table.{inRange, sizesFit, lengthFits, flagsFit, rulesetBefore, rulesetFits, rulesetsFit, rangeFits, rangesFit, countsFit, parametersIn, parametersFit, isPart, partsFit, tableFits}
-use Rattle.defs.specs.declared.ruledef.Part.{Part}
+use Rattle.defs.specs.Table.{wordAt, rulesetsIn, recordsIn, partsIn, partsFrom, flagAt, rulesetAt, firstAt, countAt, partWordAt, partOf, ruleSpan, partsBetween, isParameter}
+use Rattle.defs.specs.Table.{inRange, sizesFit, lengthFits, rulesetBefore, rulesetFits, rangeFits, rangesFit, countsFit, parametersIn, isPart}
 use Rattle.defs.specs.declared.ruledef.Parts.{Parts}
 use Rattle.defs.proofs.Words.{parts-whole, parts-none, parts-next}
 use Rattle.defs.specs.declared.ruledef.Part.the-variants.{Exact, Whitespace, Expression, Nested}

@@ -1,7 +1,7 @@
 -- The lists of rules to try: written into a buffer by a loop that keeps the rules of which a test holds, and that the
 -- marks of a lookup, taken by length, give the order of its definition.
-use mathlib.Core.Path.{_≡_, refl, sym, ap, ap₂, _∙_, subst}
-use mathlib.Core.Logic.{_⊎_, inl, inr, ⊎-elim}
+use mathlib.Core.Path.{_≡_, refl, sym, ap, ap₂, _∙_}
+use mathlib.Core.Logic.{_⊎_, inl, inr}
 use mathlib.Core.Bool.{Bool, true, false, _&&_, true≢false}
 use mathlib.Core.List.{List, [], _∷_, _++_, append-nil, append-assoc, flatMap}
 use Prim.Native.Nat.{ℕ, zero, suc, _+_, _-_, _≤_, _<_}
@@ -12,7 +12,7 @@ use native.Mathlib.Omega.{arith}
 use lib.Dec.{eqb, leb, ltb}
 use lib.ListN.{length, getD, take, drop, set, length-append, length-take, length-drop, take-append-drop}
 use lib.Seq.{drop-cons, drop-drop, drop-append-add, take-at, set-at, getD-set-same, getD-set-other, append-snoc, length-take-le}
-use borrow.Author.Tests.{eqb-true, eqb-false, eq-eqb, ne-eqb, le-ltb, le-leb, lt-leb}
+use borrow.Author.Tests.{eqb-true, eq-eqb, ne-eqb, le-ltb, le-leb, lt-leb}
 use Rattle.plain.specs.Choice.{select}
 use Rattle.plain.specs.Below.{countBelow}
 use Rattle.plain.specs.Lists.{range, keepIf}

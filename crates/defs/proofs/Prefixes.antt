@@ -1,12 +1,10 @@
 -- Prefixes: the line's, as the code gathers it, and a rule's, as the code compares it.
-use mathlib.Core.Path.{_≡_, refl, sym, ap, ap₂, _∙_, subst}
-use mathlib.Core.Logic.{_⊎_, inl, inr, ⊎-elim}
-use mathlib.Core.Bool.{Bool, true, false, not, _&&_}
+use mathlib.Core.Path.{_≡_, refl, sym, ap, ap₂, _∙_}
+use mathlib.Core.Bool.{Bool, true, false, _&&_}
 use mathlib.Core.List.{List, [], _∷_, _++_, map, map-append, append-nil}
 use Prim.Native.Nat.{ℕ, zero, suc, _+_, _-_, _≤_, _<_}
 use native.Mathlib.Nat.{zero-add, add-zero}
 use native.Mathlib.Numerals.{add-one}
-use native.Mathlib.Decide.{ℕ-discrete}
 use native.Mathlib.Omega.{arith}
 use lib.ListN.{length, getD, take, drop, set, length-append, length-take, take-append-drop, drop-of-length-le}
 use lib.Seq.{take-nil, take-suc, take-all, take-at, drop-cons, getD-at, getD-take}
@@ -14,13 +12,13 @@ use lib.Dec.{eqb}
 use borrow.Author.Tests.{eq-eqb, ne-eqb}
 use Rattle.plain.specs.Choice.{select}
 use Rattle.plain.specs.Lists.{range, keepIf, listed}
-use Rattle.plain.proofs.Lists.{keepIf-append, listed-set, listed-same}
-use Rattle.syntax.specs.Token.{isWhitespace, lowered}
+use Rattle.plain.proofs.Lists.{keepIf-append, listed-set}
+use Rattle.syntax.specs.Token.{lowered}
 use Rattle.syntax.specs.Cut.{isSolid}
 use Rattle.defs.specs.Table.{wordAt, partOf, partsBetween}
 use Rattle.defs.specs.RuledefMap.{leading, rulePrefix, linePrefix, heldPrefix, prefixBytes, sameBytes, prefixLength}
 use Rattle.defs.specs.declared.ruledef.Part.{Part}
-use Rattle.defs.specs.declared.ruledef.Part.the-variants.{Exact, Whitespace, Expression, Nested}
+use Rattle.defs.specs.declared.ruledef.Part.the-variants.{Exact}
 use Rattle.defs.specs.declared.ruledef_map.Prefix.{Prefix}
 use Rattle.defs.proofs.Words.{parts-none, parts-next}
 

@@ -1,10 +1,9 @@
 -- Where rulesets begin: the tally that a pass over the records makes, summed up, says how many records are of lesser
 -- rulesets; and since an accepted table's records stand in order, a ruleset's records are the places from there on.
 use mathlib.Core.Path.{_≡_, refl, sym, ap, ap₂, _∙_, subst}
-use mathlib.Core.Logic.{_⊎_, inl, inr, ⊎-elim}
-use mathlib.Core.Bool.{Bool, true, false, not, _&&_}
+use mathlib.Core.Bool.{Bool, true, false}
 use mathlib.Core.List.{List, [], _∷_, _++_, map, append-nil}
-use Prim.Native.Nat.{ℕ, zero, suc, _+_, _-_, _≤_, _<_}
+use Prim.Native.Nat.{ℕ, zero, suc, _+_, _≤_, _<_}
 use native.Mathlib.Numerals.{add-one}
 use native.Mathlib.Decide.{ℕ-discrete, decLt}
 use native.Mathlib.Omega.{arith}
@@ -12,13 +11,13 @@ use lib.Dec.{eqb, leb, ltb}
 use lib.ListN.{length, getD, set, length-map}
 use borrow.Author.Tests.{leb-true, ltb-true, eq-eqb, ne-eqb, lt-ltb, le-ltb, le-leb, lt-leb}
 use Rattle.plain.specs.Choice.{select}
-use Rattle.plain.specs.Below.{everyBelow, sumBelow, countBelow}
+use Rattle.plain.specs.Below.{sumBelow, countBelow}
 use Rattle.plain.specs.Lists.{range, keepIf, listed}
-use Rattle.plain.proofs.Tests.{and-left, and-right, tested}
+use Rattle.plain.proofs.Tests.{and-left, and-right}
 use Rattle.plain.proofs.Below.{every-at, sum-more, sum-none, sum-grows, count-more, count-none, count-next, count-most, count-all, count-no}
-use Rattle.plain.proofs.Lists.{range-length, range-at, range-more, keepIf-append, listed-at, as-listed, listed-set, listed-same, listed-length, kept-more}
-use Rattle.defs.specs.Table.{recordsIn, rulesetsIn, rulesetAt, rulesetBefore, rulesetFits, rulesetsFit, ruleParts, tableFits}
-use Rattle.defs.specs.Ruledef.{Ruleset, recordsOf, isTop, rulesetOf, tableOf, rulesIn, beginsAt, startsOf, tallyOf, summedUp}
+use Rattle.plain.proofs.Lists.{range-length, range-at, range-more, listed-at, as-listed, listed-set, listed-same, listed-length, kept-more}
+use Rattle.defs.specs.Table.{recordsIn, rulesetsIn, rulesetAt, rulesetBefore, rulesetFits, rulesetsFit, ruleParts}
+use Rattle.defs.specs.Ruledef.{recordsOf, rulesetOf, rulesIn, beginsAt, startsOf, tallyOf, summedUp}
 
 -- a list that is listed to 33 has 33 entries
 pub listed-33 : (f : ℕ → ℕ) (xs : List ℕ) → xs ≡ listed 33 f → length xs ≡ 33

@@ -1,18 +1,14 @@
 -- The table's words as the code reads them.
-use mathlib.Core.Path.{_≡_, refl, sym, ap, ap₂, _∙_}
-use mathlib.Core.Bool.{Bool, true, false}
+use mathlib.Core.Path.{_≡_, sym, ap, _∙_}
 use mathlib.Core.List.{List, [], _∷_, map}
 use Prim.Native.Nat.{ℕ, _+_, _*_, _-_, _%_, _≤_, _<_, min}
 use native.Mathlib.Numerals.{add-one}
 use native.Mathlib.Decide.{decLe}
 use native.Mathlib.Omega.{arith}
-use lib.Dec.{eqb, ltb}
 use lib.ListN.{length, getD, take, drop, drop-of-length-le}
 use lib.Seq.{slice, slice-cons, take-all, length-take-le}
-use borrow.Author.Tests.{lt-ltb, le-ltb, eq-eqb, ne-eqb}
-use Rattle.plain.specs.Choice.{select}
-use Rattle.defs.specs.Table.{wordAt, recordsFrom, partsFrom, fieldAt, firstAt, countAt, partOf, ruleFrom, ruleWords, ruleSpan, ruleParts, partsBetween}
-use Rattle.defs.specs.declared.ruledef.Part.{Part}
+use borrow.Author.Tests.{lt-ltb, le-ltb, ne-eqb}
+use Rattle.defs.specs.Table.{wordAt, firstAt, countAt, partOf, ruleFrom, ruleWords, ruleSpan, ruleParts, partsBetween}
 use Rattle.defs.specs.declared.ruledef.Part.the-variants.{Exact, Whitespace, Expression, Nested}
 use Rattle.defs.specs.declared.ruledef.Parts.{Parts}
 

@@ -1,7 +1,6 @@
 -- Laws of what is said of every number below another. Each goes by induction on the bound; a loop that counts up
 -- uses `every-more` and `every-fails`, a reader of an accepted input uses `every-at`.
 use mathlib.Core.Path.{_≡_, refl, sym, ap, ap₂, _∙_, subst}
-use mathlib.Core.Logic.{_⊎_, inl, inr, ⊎-elim}
 use mathlib.Core.Bool.{Bool, true, false, _&&_}
 use Prim.Native.Nat.{ℕ, zero, suc, _+_, _≤_, _<_}
 use native.Mathlib.Numerals.{add-one}

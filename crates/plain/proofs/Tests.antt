@@ -1,7 +1,7 @@
 -- Tests taken apart and put together: what a conjunction or a disjunction says of its parts.
 use mathlib.Core.Path.{_≡_, refl, sym, ap, _∙_}
 use mathlib.Core.Logic.{_⊎_, inl, inr}
-use mathlib.Core.Bool.{Bool, true, false, not, _&&_, _||_, true≢false}
+use mathlib.Core.Bool.{Bool, true, false, _&&_, _||_, true≢false}
 
 -- a test is true or false, with the equation
 pub tested : (b : Bool) → (b ≡ true) ⊎ (b ≡ false)

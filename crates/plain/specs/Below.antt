@@ -1,5 +1,5 @@
 -- What is said of every number below another: tests, sums and counts.
-use mathlib.Core.Bool.{Bool, true, false, _&&_}
+use mathlib.Core.Bool.{Bool, true, _&&_}
 use Prim.Native.Nat.{ℕ, zero, suc, _+_}
 use Rattle.plain.specs.Choice.{select}
 

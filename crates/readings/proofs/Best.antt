@@ -1,19 +1,17 @@
 -- The greatest-count cut keeps exactly the readings with the greatest exact count, each once.
-use mathlib.Core.Path.{_≡_, refl, sym, _∙_, subst, ap}
-use mathlib.Core.Logic.{_⊎_, inl, inr, _↔_}
-use mathlib.Core.Bool.{Bool, true}
+use mathlib.Core.Path.{_≡_, refl, sym, subst}
+use mathlib.Core.Logic.{inl, inr}
 use mathlib.Core.List.{List, [], _∷_, map, List·Memᴰ, List·Memᴰ·head, List·Memᴰ·tail, List·Memᴰ·cases-cons, List·Memᴰ·not-nil}
-use Prim.Native.Nat.{ℕ, _≤_, max}
+use Prim.Native.Nat.{_≤_, max}
 use native.Mathlib.Decide.{decLe}
 use native.Mathlib.Omega.{arith}
 use lib.Dec.{eqb}
 use borrow.Author.Tests.{eqb-true, eq-eqb}
-use Rattle.plain.specs.Lists.{keepIf}
 use Rattle.plain.proofs.Members.{kept-mem, kept-has, kept-apart}
 use Rattle.readings.specs.Tree.{Tree}
 use Rattle.readings.specs.Scene.{Scene}
 use Rattle.readings.specs.Reading.{Reading, Readings}
-use Rattle.readings.specs.Demand.{Greatest, BestReadings}
+use Rattle.readings.specs.Demand.{BestReadings}
 use Rattle.readings.specs.Answer.{exactCount, greatest, greatestCount, best}
 
 module _ (s : Scene) where

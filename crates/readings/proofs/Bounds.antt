@@ -1,17 +1,15 @@
 -- What an answer can come to: every word of it fits 16 bits and its length 32, and where a scan is not refused no reading
 -- is deeper than 16.
 use mathlib.Core.Path.{_≡_, refl, sym, _∙_, subst, ap}
-use mathlib.Core.Logic.{_⊎_, inl, inr}
-use mathlib.Core.Bool.{Bool, true, false, not, _&&_}
-use mathlib.Core.Option.{Option, none}
+use mathlib.Core.Logic.{inl, inr}
+use mathlib.Core.Bool.{Bool, true, false, not}
 use mathlib.Core.List.{List, [], _∷_, _++_, map, List·Memᴰ, List·Memᴰ·head, List·Memᴰ·tail, List·Memᴰ·cases-cons, List·Memᴰ·append-cases, List·Memᴰ·not-nil, Memᴰ·of-map}
-use Prim.Native.Nat.{ℕ, zero, suc, _+_, _*_, _-_, _≤_, _<_, min}
+use Prim.Native.Nat.{ℕ, suc, _*_, _-_, _≤_, _<_}
 use native.Mathlib.Omega.{arith}
 use lib.Dec.{eqb}
 use lib.ListN.{length, length-append, length-map}
 use borrow.Author.Tests.{eqb-true}
 use Rattle.plain.specs.Choice.{select}
-use Rattle.plain.specs.Below.{countBelow}
 use Rattle.plain.specs.Lists.{range, keepIf}
 use Rattle.plain.proofs.Tests.{and-left, and-right}
 use Rattle.plain.proofs.Below.{count-most}
@@ -19,9 +17,8 @@ use Rattle.plain.proofs.Lists.{kept-length}
 use Rattle.plain.proofs.Members.{range-below, kept-mem}
 use Rattle.syntax.specs.Token.{isWhitespace}
 use Rattle.syntax.specs.Walker.{byteAt}
-use Rattle.syntax.specs.Line.{faultAt, GoodLine}
 use Rattle.syntax.proofs.Lines.{good-is}
-use Rattle.defs.specs.Table.{tableFits, sizesFit, lengthFits, flagsFit, rulesetsFit, rangesFit, countsFit, parametersFit, partsFit, rulesetsIn, recordsIn, partsIn, rulesetAt, ruleParts}
+use Rattle.defs.specs.Table.{tableFits, sizesFit, lengthFits, flagsFit, rulesetsFit, rulesetsIn, recordsIn, partsIn, rulesetAt, ruleParts}
 use Rattle.defs.specs.Ruledef.{recordsOf, rulesetOf}
 use Rattle.defs.specs.declared.ruledef.Part.{Part}
 use Rattle.defs.proofs.Check.{Sizes, sizes-bound}
@@ -29,7 +26,7 @@ use Rattle.defs.proofs.Starts.{ruleset-below}
 use Rattle.readings.specs.Tree.{Tree, node, Args, end, expr, nest}
 use Rattle.readings.specs.Scene.{Scene, Lawful, sceneOf}
 use Rattle.readings.specs.Reading.{Span, From, finish, exact, whitespace, expression, nested, Reading, reading}
-use Rattle.readings.specs.Plan.{Outcome, done, run, records, room}
+use Rattle.readings.specs.Plan.{done, run, records, room}
 use Rattle.readings.specs.Walk.{Match, topPairs, tries, scan, depths}
 use Rattle.readings.specs.Answer.{exactCount, greatestCount, greatest, best, argCount, treeWords, argWords, allWords, wordsOf, answerWords}
 use Rattle.readings.specs.Call.{Told, tree, callWith}

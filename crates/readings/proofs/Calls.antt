@@ -1,35 +1,27 @@
 -- The whole call, case by case: each number exactly in its case, and demand 3 for scan and lookup.
-use mathlib.Core.Path.{_≡_, refl, sym, _∙_, subst, ap, ap₂, fun-ext}
-use mathlib.Core.Logic.{_⊎_, inl, inr, ⊎-elim, _↔_}
-use mathlib.Core.Bool.{Bool, true, false, not}
-use mathlib.Core.Option.{Option, none, some}
-use mathlib.Core.List.{List, [], _∷_, _++_, map, List·Memᴰ, List·Memᴰ·head, List·Memᴰ·not-nil}
+use mathlib.Core.Path.{_≡_, refl, _∙_, ap}
+use mathlib.Core.Logic.{_⊎_, inl, inr, ⊎-elim}
+use mathlib.Core.Bool.{Bool, true, false}
+use mathlib.Core.Option.{none, some}
+use mathlib.Core.List.{List, [], _∷_, _++_, map, List·Memᴰ·head, List·Memᴰ·not-nil}
 use Prim.Native.Nat.{ℕ, _-_, _≤_, _<_}
 use native.Mathlib.Decide.{decLe}
 use native.Mathlib.Omega.{arith}
-use lib.Dec.{leb}
 use lib.ListN.{length, drop}
 use borrow.Author.Tests.{le-leb, lt-leb}
 use Rattle.plain.specs.Choice.{select}
 use Rattle.syntax.specs.Line.{faultAt}
 use Rattle.defs.specs.Table.{tableFits}
-use Rattle.defs.specs.RuledefMap.{linePrefix}
 use Rattle.extents.specs.Sheet.{sheetFits}
-use Rattle.extents.specs.Alike.{Alike}
-use Rattle.extents.proofs.Unread.{same-sheet, same-free, same-greedy}
 use Rattle.readings.specs.Tree.{Tree}
-use Rattle.readings.specs.Scene.{Scene, Lawful, sceneOf}
-use Rattle.readings.specs.Reading.{Reading, Readings}
-use Rattle.readings.specs.Plan.{Outcome, done, stop, run}
-use Rattle.readings.specs.Walk.{Match, topPairs, tries, scan}
-use Rattle.readings.specs.Lookup.{foundPairs, lookup}
-use Rattle.readings.specs.Answer.{exactCount, greatestCount, best, wordsOf, answerWords}
-use Rattle.readings.specs.Call.{Told, refusedAt, stoppedAfter, written, matched, tree, ended, budgetFits, lined, callWith, scanCall, lookupCall}
+use Rattle.readings.specs.Scene.{Scene, sceneOf}
+use Rattle.readings.specs.Reading.{Readings}
+use Rattle.readings.specs.Plan.{done, stop, run}
+use Rattle.readings.specs.Walk.{Match, tries}
+use Rattle.readings.specs.Answer.{greatestCount, best, answerWords}
+use Rattle.readings.specs.Call.{Told, refusedAt, stoppedAfter, written, matched, tree, ended, budgetFits, callWith}
 use Rattle.readings.proofs.Runs.{run-spent}
-use Rattle.readings.proofs.Scan.{scan-readings, tries-readings}
-use Rattle.readings.proofs.Packed.{lawful}
-use Rattle.readings.proofs.Lookups.{lookup-readings, lookup-done}
-use Rattle.readings.specs.Demand.{BestReadings, Holds, Demand3}
+use Rattle.readings.specs.Demand.{Demand3}
 use Rattle.readings.proofs.Best.{best-readings, best-counts}
 
 -- table, line, sheet and budget that get no number from 2 to 5

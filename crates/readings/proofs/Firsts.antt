@@ -1,11 +1,11 @@
 -- What stays of a list when of those that are the same only the first counts: exactly those that are the same as none
 -- before them; if the test tells keys apart, one for each key.
 use mathlib.Core.Path.{_≡_, refl, sym, _∙_, ap}
-use mathlib.Core.Logic.{_⊎_, inl, inr, ⊎-elim}
-use mathlib.Core.Bool.{Bool, true, false, _||_}
-use mathlib.Core.List.{List, [], _∷_, _++_, List·Memᴰ, List·Memᴰ·head, List·Memᴰ·tail, List·Memᴰ·cases-cons, List·Memᴰ·not-nil, Memᴰ·cast}
+use mathlib.Core.Logic.{inl, inr, ⊎-elim}
+use mathlib.Core.Bool.{Bool, true, false}
+use mathlib.Core.List.{List, [], _∷_, _++_, List·Memᴰ, List·Memᴰ·head, List·Memᴰ·tail, List·Memᴰ·cases-cons, List·Memᴰ·not-nil}
 use Rattle.plain.specs.Lists.{Apart}
-use Rattle.plain.proofs.Tests.{tested, not-both, or-false-left, or-false-right, or-cases}
+use Rattle.plain.proofs.Tests.{tested, or-false-left, or-false-right}
 use Rattle.readings.specs.Walk.{unless, anySame, fresh, firsts}
 
 module _ {A : Type 0} (same : A → A → Bool) where

@@ -1,21 +1,19 @@
 -- The leaves of the walk against those of the relation: useful place, exact part, whitespace part, cut and span are found
 -- exactly where they are declared.
 use mathlib.Core.Path.{_≡_, refl, sym, ap, _∙_, subst}
-use mathlib.Core.Logic.{_⊎_, inl, inr, ⊎-elim, _↔_}
-use mathlib.Core.Bool.{Bool, true, false, _&&_, _||_}
-use mathlib.Core.List.{List, [], _∷_, List·Memᴰ, List·Memᴰ·head, List·Memᴰ·tail, List·Memᴰ·cases-cons, List·Memᴰ·not-nil}
+use mathlib.Core.Logic.{_⊎_, inl, inr, ⊎-elim}
+use mathlib.Core.Bool.{Bool, true, false, _&&_}
+use mathlib.Core.List.{List, List·Memᴰ, List·Memᴰ·head, List·Memᴰ·tail, List·Memᴰ·cases-cons, List·Memᴰ·not-nil}
 use mathlib.Core.Option.{Option, none, some, Option·some-inj, Option·none-ne-some}
-use Prim.Native.Nat.{ℕ, zero, suc, _+_, _≤_, _<_, min}
+use Prim.Native.Nat.{ℕ, _+_, _<_, min}
 use native.Mathlib.Omega.{arith}
 use native.Mathlib.Decide.{decLt}
 use lib.Dec.{leb, ltb}
-use lib.ListN.{length}
-use borrow.Author.Tests.{ltb-true, lt-ltb, leb-true, leb-false, le-leb}
+use borrow.Author.Tests.{ltb-true, lt-ltb, leb-true, le-leb}
 use Rattle.plain.specs.Choice.{select}
 use Rattle.plain.proofs.Tests.{tested, not-both, and-left, and-right, and-both, or-cases, or-left, or-right}
 use Rattle.syntax.specs.Token.{isWhitespace, sameLetter}
-use Rattle.syntax.specs.Walker.{byteAt, held, over, UsefulPlace, useful, gap}
-use Rattle.syntax.specs.declared.walker.Walker.{Walker}
+use Rattle.syntax.specs.Walker.{byteAt, held, over, useful, gap}
 use Rattle.syntax.proofs.Useful.{held-within, useful-is, useful-one}
 use Rattle.defs.specs.declared.ruledef.Part.{Part}
 use Rattle.readings.specs.Scene.{Scene, walkerAt, lookahead, Lawful}

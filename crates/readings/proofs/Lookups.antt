@@ -1,30 +1,28 @@
 -- Lookup by prefix lists what the scan lists: a rule that is left out has no reading, since a reading's leading exact parts
 -- are the line's first bytes.
 use mathlib.Core.Path.{_≡_, refl, sym, _∙_, subst, ap}
-use mathlib.Core.Logic.{_⊎_, inl, inr}
 use mathlib.Core.Bool.{Bool, true, false, not}
-use mathlib.Core.Option.{Option, some, Option·some-inj}
-use mathlib.Core.List.{List, [], _∷_, _++_, map, flatMap, List·Memᴰ}
-use Prim.Native.Nat.{ℕ, zero, suc, _+_, _-_, _≤_, _<_, min}
+use mathlib.Core.Option.{Option·some-inj}
+use mathlib.Core.List.{List, [], _∷_, _++_, map, List·Memᴰ}
+use Prim.Native.Nat.{ℕ, zero, suc, _+_, _-_, _≤_, _<_}
 use native.Mathlib.Numerals.{add-one}
 use native.Mathlib.Omega.{arith}
-use lib.ListN.{length, getD, take, drop}
+use lib.ListN.{length, take, drop}
 use lib.Seq.{drop-cons, length-take-le}
 use borrow.Author.Tests.{eqb-true}
 use Rattle.plain.specs.Choice.{select}
 use Rattle.plain.specs.Lists.{range, keepIf, Apart}
 use Rattle.plain.proofs.Members.{range-below, range-has, range-apart, kept-mem, kept-has, kept-apart}
-use Rattle.syntax.specs.Token.{isWhitespace, lowered, sameLetter}
+use Rattle.syntax.specs.Token.{isWhitespace, lowered}
 use Rattle.syntax.specs.Walker.{byteAt, held}
 use Rattle.syntax.specs.Cut.{isSolid}
-use Rattle.defs.specs.RuledefMap.{leading, rulePrefix, linePrefix, sameBytes}
+use Rattle.defs.specs.RuledefMap.{leading, rulePrefix, linePrefix}
 use Rattle.defs.proofs.Orders.{same-eq, same-refl}
 use Rattle.defs.specs.declared.ruledef.Part.{Part}
-use Rattle.defs.specs.declared.ruledef.Part.the-variants.{Exact, Whitespace, Expression, Nested}
-use Rattle.readings.specs.Tree.{Tree, Args}
-use Rattle.readings.specs.Scene.{Scene, walkerAt, Lawful}
-use Rattle.readings.specs.Plan.{give, Gives, Outcome, done, run}
-use Rattle.readings.specs.Walk.{Match, topPairs, tries, scan}
+use Rattle.readings.specs.Tree.{Args}
+use Rattle.readings.specs.Scene.{Scene, Lawful}
+use Rattle.readings.specs.Plan.{give, done, run}
+use Rattle.readings.specs.Walk.{Match, topPairs, scan}
 use Rattle.readings.specs.Reading.{Exactly-at, From, finish, exact, whitespace, expression, nested, Readings}
 use Rattle.readings.specs.Lookup.{hasPrefix, withPrefix, foundPairs, lookup}
 use Rattle.readings.proofs.Plans.{each-source, each-has, each-once, joined}

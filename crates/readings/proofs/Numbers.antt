@@ -1,7 +1,7 @@
 -- Each number is given exactly in its case: a call's case gives its number, and its number has a case.
 use mathlib.Core.Path.{_≡_, refl, sym, _∙_, subst, ap}
 use mathlib.Core.Logic.{_⊎_, inl, inr, ⊎-elim, _↔_}
-use mathlib.Core.Bool.{Bool, true, false, _&&_}
+use mathlib.Core.Bool.{Bool, true, false}
 use mathlib.Core.Option.{Option, none, some}
 use mathlib.Core.List.{List, [], _∷_, map}
 use Prim.Native.Nat.{ℕ, zero, suc, _-_, _≤_, _<_}
@@ -17,7 +17,7 @@ use Rattle.readings.specs.Scene.{Scene, sceneOf}
 use Rattle.readings.specs.Plan.{Plan, give, visit, keep, deep, Outcome, done, stop, run, room, pooled}
 use Rattle.readings.specs.Walk.{Match, tries}
 use Rattle.readings.specs.Answer.{answerWords}
-use Rattle.readings.specs.Call.{Told, refusedAt, stoppedAfter, tree, budgetFits, callWith}
+use Rattle.readings.specs.Call.{Told, tree, budgetFits, callWith}
 use Rattle.readings.proofs.Calls.{Accepted, bad-table, bad-line, bad-sheet, bad-budget, stopped, walked-through, fits, short}
 
 -- a run that is refused is refused with 6, 7 or 8

@@ -1,15 +1,14 @@
 -- The scene of an accepted call is lawful: its leaves are the ground crates' definitions, and their laws.
-use mathlib.Core.Path.{_≡_, refl}
-use mathlib.Core.Bool.{Bool, true}
+use mathlib.Core.Path.{_≡_}
+use mathlib.Core.Bool.{true}
 use mathlib.Core.List.{List}
-use mathlib.Core.Option.{Option, some}
-use Prim.Native.Nat.{ℕ, _≤_, _<_, min}
+use Prim.Native.Nat.{ℕ, _≤_, _<_}
 use native.Mathlib.Omega.{arith}
 use lib.ListN.{length}
-use Rattle.plain.specs.Lists.{range, Apart}
+use Rattle.plain.specs.Lists.{range}
 use Rattle.plain.proofs.Members.{range-apart, kept-apart}
 use Rattle.syntax.specs.Walker.{held}
-use Rattle.syntax.specs.Cut.{CutAt, cut}
+use Rattle.syntax.specs.Cut.{CutAt}
 use Rattle.syntax.proofs.Useful.{held-within}
 use Rattle.syntax.proofs.Cuts as Cuts
 use Rattle.defs.specs.Table.{rulesetsIn}
@@ -17,7 +16,7 @@ use Rattle.defs.specs.Ruledef.{isTop, rulesetOf}
 use Rattle.extents.specs.Sheet.{sheetFits}
 use Rattle.extents.specs.declared.Half.the-variants.{Free, Greedy}
 use Rattle.extents.proofs.Ends.{end-between}
-use Rattle.readings.specs.Scene.{Scene, walkerAt, Lawful, sceneOf}
+use Rattle.readings.specs.Scene.{walkerAt, Lawful, sceneOf}
 
 -- what is found below a held limit lies at or after the cursor, and below the limit
 pub past-cursor : (line : List ℕ) (l c p : ℕ) → walkerAt line l c .cursor ≤ p → p < walkerAt line l c .limit → (c ≤ p) × (p ≤ l)

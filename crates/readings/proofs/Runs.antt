@@ -1,16 +1,16 @@
 -- A run that is not refused answers the plan's value at the plan's own cost, and is not refused exactly if visits and room
 -- suffice. A plan made of others costs what they cost together.
 use mathlib.Core.Path.{_≡_, refl, sym, _∙_, ap}
-use mathlib.Core.Logic.{_⊎_, inl, inr}
+use mathlib.Core.Logic.{inl, inr}
 use mathlib.Core.Bool.{Bool, true, false}
-use mathlib.Core.Option.{Option, none, some, Option·none-ne-some}
+use mathlib.Core.Option.{some, Option·none-ne-some}
 use mathlib.Core.List.{List, [], _∷_, _++_, List·Memᴰ, List·Memᴰ·head, List·Memᴰ·tail, List·Memᴰ·cases-cons, List·Memᴰ·not-nil}
-use Prim.Native.Nat.{ℕ, zero, suc, _+_, _-_, _≤_, _<_}
+use Prim.Native.Nat.{ℕ, zero, suc, _+_, _≤_}
 use native.Mathlib.Omega.{arith}
 use lib.Dec.{ltb}
-use borrow.Author.Tests.{ltb-true, ltb-false, lt-ltb}
+use borrow.Author.Tests.{ltb-true, lt-ltb}
 use Rattle.plain.specs.Lists.{Apart}
-use Rattle.readings.specs.Plan.{Plan, give, visit, keep, deep, value, Gives, Outcome, done, stop, run, room, visits, records, pooled, _then_, each}
+use Rattle.readings.specs.Plan.{Plan, give, visit, keep, deep, Gives, Outcome, done, stop, run, room, visits, records, pooled, _then_, each}
 use Rattle.readings.proofs.Plans.{then-value, each-parts}
 
 module _ {A : Type 0} where

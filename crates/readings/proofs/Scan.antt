@@ -1,15 +1,15 @@
 -- A scan that is not refused lists every reading, each once, and nothing else. So do the tries of other rules, if none is
 -- left out that has a reading; and tries of fewer rules cost no more.
-use mathlib.Core.Path.{_≡_, refl, sym, _∙_, subst, ap}
-use mathlib.Core.List.{List, [], _∷_, map, List·Memᴰ, Memᴰ·map, Memᴰ·of-map}
-use Prim.Native.Nat.{ℕ, zero, _+_, _-_, _≤_}
+use mathlib.Core.Path.{_≡_, sym, _∙_, subst, ap}
+use mathlib.Core.List.{List, map, List·Memᴰ, Memᴰ·map, Memᴰ·of-map}
+use Prim.Native.Nat.{ℕ, _+_, _-_, _≤_}
 use native.Mathlib.Omega.{arith}
 use lib.ListN.{length}
 use Rattle.plain.specs.Lists.{Apart}
 use Rattle.plain.proofs.Members.{apart-map}
-use Rattle.readings.specs.Tree.{Tree, node, Args}
+use Rattle.readings.specs.Tree.{Tree, Args}
 use Rattle.readings.specs.Scene.{Scene, Lawful}
-use Rattle.readings.specs.Plan.{Gives, Outcome, done, run, each, visits, records}
+use Rattle.readings.specs.Plan.{Gives, done, run, visits, records}
 use Rattle.readings.specs.Walk.{Match, trial, tries, topPairs, scan}
 use Rattle.readings.specs.Reading.{From, Reading, reading, Readings}
 use Rattle.readings.proofs.Plans.{each-source, each-has, each-once}

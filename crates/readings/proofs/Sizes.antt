@@ -1,19 +1,19 @@
 -- What a walk has found against what it took: a record for each match it lists, at least as many records as any of its
 -- trees has, and no tree deeper than the depths it was given.
-use mathlib.Core.Path.{_≡_, refl, sym, _∙_, subst, ap}
-use mathlib.Core.Logic.{_⊎_, inl, inr}
+use mathlib.Core.Path.{_≡_}
+use mathlib.Core.Logic.{inl, inr}
 use mathlib.Core.Bool.{Bool, true, false}
-use mathlib.Core.Option.{Option, none, some, Option·some-inj, Option·none-ne-some}
-use mathlib.Core.List.{List, [], _∷_, _++_, map, List·Memᴰ, List·Memᴰ·head, List·Memᴰ·tail, List·Memᴰ·cases-cons, List·Memᴰ·not-nil, List·Memᴰ·eq-of-singleton}
-use Prim.Native.Nat.{ℕ, zero, suc, _+_, _≤_, _<_, max}
+use mathlib.Core.Option.{Option, none, some, Option·none-ne-some}
+use mathlib.Core.List.{List, [], _∷_, _++_, map, List·Memᴰ, List·Memᴰ·cases-cons, List·Memᴰ·not-nil, List·Memᴰ·eq-of-singleton}
+use Prim.Native.Nat.{ℕ, zero, suc, _≤_}
 use native.Mathlib.Omega.{arith}
 use lib.Dec.{eqb}
 use lib.ListN.{length, length-append, length-map}
 use Rattle.defs.specs.declared.ruledef.Part.{Part}
 use Rattle.defs.specs.declared.ruledef.Part.the-variants.{Exact, Whitespace, Expression, Nested}
-use Rattle.readings.specs.Tree.{Tree, node, Args, end, expr, nest}
+use Rattle.readings.specs.Tree.{end}
 use Rattle.readings.specs.Scene.{Scene}
-use Rattle.readings.specs.Plan.{Plan, give, visit, keep, deep, value, records, Gives, _then_, each, when, after, mapped}
+use Rattle.readings.specs.Plan.{Plan, give, keep, records, Gives, _then_, each, when, after, mapped}
 use Rattle.readings.specs.Walk.{Found, Match, Below, past, isGap, ends, limits, firsts, sameMatch, addExpr, addNest, named, walk, rulesetWalk, under, trial, tries, depths}
 use Rattle.readings.specs.Measure.{treeRecords, argRecords, treeDepth, argDepth}
 use Rattle.readings.proofs.Firsts.{firsts-mem}

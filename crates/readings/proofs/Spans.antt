@@ -1,24 +1,22 @@
 -- A place in a pattern lies between the cursor it began at and its limit, and every exact part has taken a non-whitespace
 -- byte of its own: so an exact count is at most the line's non-whitespace bytes.
-use mathlib.Core.Path.{_≡_, refl, sym, _∙_, subst, ap}
-use mathlib.Core.Bool.{Bool, true, false, not}
-use mathlib.Core.List.{List, [], _∷_, List·Memᴰ}
-use mathlib.Core.Option.{Option, some}
-use Prim.Native.Nat.{ℕ, zero, suc, _+_, _≤_, _<_}
+use mathlib.Core.Path.{_≡_, sym, _∙_, subst, ap}
+use mathlib.Core.Bool.{Bool, true, not}
+use mathlib.Core.List.{List}
+use Prim.Native.Nat.{ℕ, suc, _+_, _≤_, _<_}
 use native.Mathlib.Omega.{arith}
 use lib.ListN.{length}
 use Rattle.plain.specs.Choice.{select}
 use Rattle.plain.specs.Below.{countBelow}
 use Rattle.plain.specs.Lists.{count}
-use Rattle.plain.proofs.Below.{count-none, count-more, count-grows}
+use Rattle.plain.proofs.Below.{count-more, count-grows}
 use Rattle.syntax.specs.Token.{isWhitespace}
-use Rattle.syntax.specs.Walker.{byteAt, held, UsefulPlace}
+use Rattle.syntax.specs.Walker.{byteAt, held}
 use Rattle.defs.specs.declared.ruledef.Part.{Part}
-use Rattle.defs.specs.declared.ruledef.Part.the-variants.{Exact, Whitespace, Expression, Nested}
-use Rattle.readings.specs.Tree.{Tree, node, Args, end, expr, nest}
-use Rattle.readings.specs.Scene.{Scene, walkerAt, Lawful}
-use Rattle.readings.specs.Reading.{Useful, Exactly-at, Cut-for, Candidate, freely, cut-short, greedily, Under, whole, up-to, From, finish, exact, whitespace, expression, nested, Reading, reading}
-use Rattle.readings.specs.Answer.{exactParts, isExact, exactCount, nestedCount}
+use Rattle.readings.specs.Tree.{Tree, Args}
+use Rattle.readings.specs.Scene.{Scene, Lawful}
+use Rattle.readings.specs.Reading.{Exactly-at, Cut-for, Candidate, freely, cut-short, greedily, Under, whole, up-to, From, finish, exact, whitespace, expression, nested, Reading, reading}
+use Rattle.readings.specs.Answer.{exactParts, exactCount, nestedCount}
 use Rattle.readings.specs.Measure.{solidsBefore, solids}
 
 module _ (s : Scene) (law : Lawful s) where

@@ -1,8 +1,7 @@
 -- The theorems, in one place: what the whole call tells, said in the reading relation.
 use mathlib.Core.Path.{_≡_, sym, _∙_, subst, ap}
-use mathlib.Core.Bool.{Bool, true, false, not}
-use mathlib.Core.Option.{Option, none, some}
-use mathlib.Core.List.{List, [], _∷_, map}
+use mathlib.Core.Bool.{not}
+use mathlib.Core.List.{List, [], map}
 use Prim.Native.Nat.{ℕ, _-_, _≤_}
 use native.Mathlib.Omega.{arith}
 use lib.ListN.{length, getD}
@@ -13,15 +12,13 @@ use Rattle.syntax.specs.Cut.{CutAt, cut}
 use Rattle.defs.specs.Table.{rulesetsIn, tableFits}
 use Rattle.defs.specs.Ruledef.{isTop, rulesetOf}
 use Rattle.defs.specs.RuledefMap.{linePrefix}
-use Rattle.extents.specs.Sheet.{sheetFits, freeEnd, greedyEnd}
 use Rattle.extents.specs.Alike.{Alike}
 use Rattle.extents.proofs.Unread.{same-sheet, same-free, same-greedy}
-use Rattle.readings.specs.Tree.{Tree}
 use Rattle.readings.specs.Scene.{Scene, walkerAt, sceneOf}
-use Rattle.readings.specs.Plan.{Outcome, done, stop, run}
+use Rattle.readings.specs.Plan.{done, run}
 use Rattle.readings.specs.Walk.{Match, topPairs, tries, scan}
 use Rattle.readings.specs.Lookup.{foundPairs, lookup}
-use Rattle.readings.specs.Call.{Told, refusedAt, stoppedAfter, matched, tree, ended, budgetFits, lined, callWith, scanCall, lookupCall}
+use Rattle.readings.specs.Call.{Told, refusedAt, tree, ended, budgetFits, lined, callWith, scanCall, lookupCall}
 use Rattle.readings.specs.Demand.{Demand3}
 use Rattle.readings.proofs.Scan.{scan-readings}
 use Rattle.readings.proofs.Packed.{lawful}

@@ -1,17 +1,16 @@
 -- No choice is left: what a definition declares has one value. The call, the scan and the lookup are functions of what they
 -- are given, order of the trees included; what follows is said of the relations, which could allow more.
-use mathlib.Core.Path.{_≡_, refl, sym, _∙_, ap}
-use mathlib.Core.Logic.{_⊎_, inl, inr}
-use mathlib.Core.Option.{Option, some, Option·some-inj}
+use mathlib.Core.Path.{_≡_, refl, sym, _∙_}
+use mathlib.Core.Option.{Option·some-inj}
 use mathlib.Core.List.{List, [], _∷_, List·Memᴰ}
-use Prim.Native.Nat.{ℕ, suc, _+_, _≤_}
+use Prim.Native.Nat.{ℕ, _≤_}
 use native.Mathlib.Omega.{arith}
 use lib.ListN.{length}
 use Rattle.defs.specs.declared.ruledef.Part.{Part}
 use Rattle.readings.specs.Tree.{Tree, Args}
 use Rattle.readings.specs.Scene.{Scene, Lawful}
 use Rattle.readings.specs.Reading.{Useful, Exactly-at, Cut-for, Span, From, Readings}
-use Rattle.readings.specs.Demand.{Greatest, BestReadings}
+use Rattle.readings.specs.Demand.{BestReadings}
 use Rattle.readings.specs.Call.{Told, callWith}
 use Rattle.readings.proofs.Leaves.{useful-only, past-found, span-found, cut-found}
 use Rattle.readings.proofs.Runs.{total, total-fewer}

@@ -2,10 +2,9 @@
 -- completeness on the derivation; what carries it is that equal inner trees end at the same cursor, so that to count
 -- equal matches once loses nothing.
 use mathlib.Core.Path.{_≡_, refl, sym, _∙_, subst, ap}
-use mathlib.Core.Logic.{_⊎_, inl, inr}
 use mathlib.Core.Bool.{Bool, true, false}
-use mathlib.Core.Option.{Option, none, some, Option·some-inj, Option·none-ne-some}
-use mathlib.Core.List.{List, [], _∷_, _++_, map, List·Memᴰ, List·Memᴰ·head, List·Memᴰ·tail, List·Memᴰ·not-nil, List·Memᴰ·eq-of-singleton, Memᴰ·cast, Memᴰ·map, Memᴰ·of-map}
+use mathlib.Core.Option.{Option·some-inj, Option·none-ne-some}
+use mathlib.Core.List.{List, [], _∷_, map, List·Memᴰ, List·Memᴰ·head, List·Memᴰ·not-nil, List·Memᴰ·eq-of-singleton, Memᴰ·cast, Memᴰ·map, Memᴰ·of-map}
 use Prim.Native.Nat.{ℕ, zero, suc, _+_}
 use lib.Dec.{eqb}
 use lib.ListN.{length}
@@ -16,9 +15,9 @@ use Rattle.defs.specs.declared.ruledef.Part.{Part}
 use Rattle.defs.specs.declared.ruledef.Part.the-variants.{Exact, Whitespace, Expression, Nested}
 use Rattle.readings.specs.Tree.{Tree, node, Args, end, expr, nest}
 use Rattle.readings.specs.Scene.{Scene, Lawful}
-use Rattle.readings.specs.Reading.{Exactly-at, From, finish, exact, whitespace, expression, nested, Reading, reading}
-use Rattle.readings.specs.Plan.{Plan, give, visit, keep, deep, value, Gives, _then_, each, when, after, mapped}
-use Rattle.readings.specs.Walk.{Found, Match, Below, past, isGap, ends, limits, firsts, sameMatch, start, addExpr, addNest, named, walk, rulesetWalk, under, trial, tries, topPairs, scan, depths}
+use Rattle.readings.specs.Reading.{Exactly-at, From, finish, exact, whitespace, expression, nested}
+use Rattle.readings.specs.Plan.{give, Gives, each}
+use Rattle.readings.specs.Walk.{Found, Match, Below, past, isGap, ends, limits, firsts, sameMatch, addExpr, addNest, named, walk, rulesetWalk, under, trial, topPairs, depths}
 use Rattle.readings.proofs.Leaves.{past-declared, past-found, gap-declared, gap-found, span-declared, span-found, limit-declared, limit-found, same-useful}
 use Rattle.readings.proofs.Candidates.{end-declared, end-listed, ends-apart}
 use Rattle.readings.proofs.Trees.{same-tree, differ}

@@ -1,7 +1,7 @@
 -- What comes out of a walk: exact counts, the greatest-count cut, and the answer as words.
 use mathlib.Core.Bool.{Bool, true, false}
 use mathlib.Core.List.{List, [], _∷_, _++_, map}
-use Prim.Native.Nat.{ℕ, zero, suc, _+_, max}
+use Prim.Native.Nat.{ℕ, suc, _+_, max}
 use lib.Dec.{eqb}
 use lib.ListN.{length}
 use Rattle.plain.specs.Lists.{keepIf, count}

@@ -1,7 +1,7 @@
 -- Measures of a tree and of a line, by which the answer's words are bounded.
-use mathlib.Core.Bool.{Bool, not}
-use mathlib.Core.List.{List, [], _∷_}
-use Prim.Native.Nat.{ℕ, zero, suc, _+_, max}
+use mathlib.Core.Bool.{not}
+use mathlib.Core.List.{List}
+use Prim.Native.Nat.{ℕ, suc, _+_, max}
 use lib.ListN.{length}
 use Rattle.plain.specs.Below.{countBelow}
 use Rattle.syntax.specs.Token.{isWhitespace}

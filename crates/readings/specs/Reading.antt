@@ -2,15 +2,14 @@
 -- equal matches. It rests on the declared useful place and cut.
 use mathlib.Core.Path.{_≡_}
 use mathlib.Core.Logic.{_⊎_}
-use mathlib.Core.Bool.{Bool, true, false}
+use mathlib.Core.Bool.{true}
 use mathlib.Core.List.{List, [], _∷_, List·Memᴰ}
-use mathlib.Core.Option.{Option, none, some}
-use Prim.Native.Nat.{ℕ, zero, suc, _+_, _≤_, _<_, min}
+use mathlib.Core.Option.{some}
+use Prim.Native.Nat.{ℕ, _+_, _≤_, _<_, min}
 use lib.ListN.{length}
 use Rattle.plain.specs.Lists.{Apart}
 use Rattle.syntax.specs.Token.{isWhitespace, sameLetter}
 use Rattle.syntax.specs.Walker.{byteAt, UsefulPlace}
-use Rattle.syntax.specs.declared.walker.Walker.{Walker}
 use Rattle.defs.specs.declared.ruledef.Part.{Part}
 use Rattle.defs.specs.declared.ruledef.Part.the-variants.{Exact, Whitespace, Expression, Nested}
 use Rattle.readings.specs.Tree.{Tree, node, Args, end, expr, nest}

@@ -8,7 +8,8 @@ use mathlib.Core.Option.{some}
 use Prim.Native.Nat.{ℕ}
 use lib.ListN.{length, getD, length-map, List·getD-map}
 use Rattle.plain.specs.Choice.{select}
-use Rattle.plain.specs.Lists.{range, keepIf, some-of, count}
+use Rattle.plain.specs.Lists.{some-of, count}
+use Rattle.plain.proofs.Lists.{kept-same}
 use Rattle.plain.proofs.Tests.{tested}
 use Rattle.resolver.specs.Outcome.{Outcome, outcomesOf, isGuess, isResolved, isKnown, sizeOf, asGuess}
 use Rattle.resolver.specs.Outcome.Outcome.{unresolved, failed, unknown, sized}
@@ -46,11 +47,6 @@ unfolding leastSize
 least-as [] = refl
 least-as (o ∷ os) = ap₂ lesser (as-guess o .same-size) (least-as os)
 
-keep-same : (f g : ℕ → Bool) → ((i : ℕ) → f i ≡ g i) → (is : List ℕ) → keepIf f is ≡ keepIf g is
-unfolding keepIf
-keep-same f g same [] = refl
-keep-same f g same (i ∷ is) = rw (same i, keep-same f g same is)
-
 size-at-as : (os : List Outcome) (i : ℕ) → sizeOf (getD (map asGuess os) i unresolved) ≡ sizeOf (getD os i unresolved)
 unfolding asGuess
 size-at-as os i = ap sizeOf (List·getD-map asGuess os i unresolved) ∙ as-guess (getD os i unresolved) .same-size
@@ -59,7 +55,7 @@ choice-as : (os : List Outcome) → choiceOf (map asGuess os) ≡ choiceOf os
 unfolding choiceOf indicesOf hasSize
 choice-as os =
     rw (length-map os asGuess)
-    (keep-same _ _ (λ i. ap₂ sameSize (least-as os) (size-at-as os i)) (range 0 (length os)))
+    (kept-same (length os) _ _ (λ i l. ap₂ sameSize (least-as os) (size-at-as os i)))
 
 as-choice : (os : List Outcome) → SameChoice (map asGuess os) os
 as-choice os =

@@ -1,20 +1,18 @@
 -- The indices that a test keeps, ascending: with one index more, how many they are, and when there is just one.
-use mathlib.Core.Path.{_≡_, refl, sym, ap, _∙_, subst}
-use mathlib.Core.Logic.{_⊎_, inl, inr, ⊎-elim}
+use mathlib.Core.Path.{_≡_, refl, sym, ap, _∙_}
 use mathlib.Core.Bool.{Bool, true, false}
-use mathlib.Core.List.{List, [], _∷_, _++_, append-nil, List·Memᴰ, Memᴰ·append-left, Memᴰ·append-right}
-use mathlib.Core.List.{List·Memᴰ·not-nil, List·Memᴰ·append-cases, List·Memᴰ·eq-of-singleton}
-use mathlib.Core.List.List·Memᴰ.{List·Memᴰ·head}
+use mathlib.Core.List.{List, [], _∷_, _++_, append-nil, List·Memᴰ}
 use Prim.Native.Nat.{ℕ, zero, suc, _≤_, _<_}
-use native.Mathlib.Nat.{zero-add}
+use native.Mathlib.Numerals.{add-one}
 use native.Mathlib.Decide.{ℕ-discrete}
 use native.Mathlib.Omega.{arith}
 use lib.ListN.{length, getD, take, length-append}
 use lib.Seq.{take-suc}
 use Rattle.plain.specs.Choice.{select}
 use Rattle.plain.specs.Lists.{range, keepIf, count}
-use Rattle.plain.proofs.Lists.{range-more, keepIf-append}
-use Rattle.plain.proofs.Tests.{tested}
+use Rattle.plain.proofs.Below.{count-grows}
+use Rattle.plain.proofs.Lists.{kept-length, kept-more, kept-none}
+use Rattle.plain.proofs.Members.{range-below, range-has, kept-mem, kept-has}
 use Rattle.resolver.proofs.Passed.{count-more}
 
 -- a test that does not hold fails
@@ -28,58 +26,26 @@ module _ (f : ℕ → Bool) where
   kept n = keepIf f (range 0 n)
 
   -- one index more, kept or not
-  kept-more : (n : ℕ) → kept (suc n) ≡ kept n ++ select (f n) (n ∷ []) []
-  unfolding keepIf
-  kept-more n = rw (range-more, zero-add) (keepIf-append f (range 0 n) (n ∷ []))
+  next-kept : (n : ℕ) → kept (suc n) ≡ kept n ++ select (f n) (n ∷ []) []
+  next-kept n = ap kept (sym (add-one n)) ∙ kept-more n f
 
   pub kept-in : (n : ℕ) → f n ≡ true → kept (suc n) ≡ kept n ++ (n ∷ [])
-  kept-in n t = rw (kept-more, t)
+  kept-in n t = rw (next-kept, t)
 
   pub kept-out : (n : ℕ) → f n ≡ false → kept (suc n) ≡ kept n
-  kept-out n t = rw (kept-more, t) (append-nil (kept n))
+  kept-out n t = rw (next-kept, t) (append-nil (kept n))
 
   -- more indices, no fewer kept
   pub kept-grows : (m n : ℕ) → m ≤ n → length (kept m) ≤ length (kept n)
-  unfolding range keepIf
-  kept-grows m zero h = subst (λ (k : ℕ). length (kept k) ≤ 0) (zero-of m h) (omega arith)
-    where
-      zero-of : (k : ℕ) → k ≤ 0 → 0 ≡ k
-      zero-of k l = omega arith
-  kept-grows m (suc n) h =
-      elim (ℕ-discrete m (suc n)) [
-        | yes e ↦ rw e (omega arith)
-        | no d ↦
-            let step = ap length (kept-more n) ∙ length-append (kept n) (select (f n) (n ∷ []) []) in
-            omega (arith, kept-grows m n (omega (arith, d)), step)
-      ]
+  kept-grows m n h = omega (arith, kept-length m f, kept-length n f, count-grows m n f h)
 
   -- an index that passes the test is kept
   pub kept-all : (n j : ℕ) → j < n → f j ≡ true → List·Memᴰ j (kept n)
-  kept-all zero j l t = absurd (omega arith)
-  kept-all (suc n) j l t =
-      elim (ℕ-discrete j n) [
-        | yes e ↦ rw (kept-in n (sym (ap f e) ∙ t)) (Memᴰ·append-right (kept n) (List·Memᴰ·head e))
-        | no d ↦ rw (kept-more n) (Memᴰ·append-left _ (kept-all n j (omega (arith, d)) t))
-      ]
+  kept-all n j l t = kept-has f (range 0 n) t (range-has 0 n j (omega arith) (omega arith))
 
   -- and no other is
   pub kept-only : (n j : ℕ) → List·Memᴰ j (kept n) → (j < n) × (f j ≡ true)
-  unfolding range keepIf
-  kept-only zero j m = absurd (List·Memᴰ·not-nil m)
-  kept-only (suc n) j m = go (tested (f n)) (kept-only n j)
-    where
-      go : (f n ≡ true) ⊎ (f n ≡ false) → (List·Memᴰ j (kept n) → (j < n) × (f j ≡ true)) → (j < suc n) × (f j ≡ true)
-      go (inl t) before =
-          ⊎-elim (λ earlier. (omega (arith, before earlier .0), before earlier .1))
-          (λ now. let e = List·Memᴰ·eq-of-singleton now in (omega (arith, e), ap f e ∙ t))
-          (List·Memᴰ·append-cases (kept n) (rw (kept-in n t) at m))
-      go (inr t) before = let earlier = before (rw (kept-out n t) at m) in (omega (arith, earlier .0), earlier .1)
-
-  none-kept : (n : ℕ) → ((j : ℕ) → j < n → f j ≡ true → ⊥) → kept n ≡ []
-  unfolding range keepIf
-  none-kept zero none-of = refl
-  none-kept (suc n) none-of =
-      kept-out n (fails (f n) (none-of n (omega arith))) ∙ none-kept n (λ j l. none-of j (omega arith))
+  kept-only n j m = let (i, t) = kept-mem f (range 0 n) m in (omega (arith, range-below 0 n i), t)
 
   -- the one index that passes the test is kept alone
   pub one-kept :
@@ -88,7 +54,7 @@ module _ (f : ℕ → Bool) where
   one-kept (suc n) i l t only =
       elim (ℕ-discrete i n) [
         | yes e ↦
-            rw (kept-in n (sym (ap f e) ∙ t), none-kept n (λ j m h. omega (arith, only j (omega arith) h)), e)
+            rw (kept-in n (sym (ap f e) ∙ t), kept-none n f (λ j m. fails (f j) (λ h. omega (arith, only j (omega arith) h))), e)
         | no d ↦
             kept-out n (fails (f n) (λ h. d (sym (only n (omega arith) h))))
             ∙ one-kept n i (omega (arith, d)) t (λ j m. only j (omega arith))
@@ -107,4 +73,4 @@ module _ {A : Type 0} (f : A → Bool) (xs : List A) (d : A) where
   pub kept-counted : (i : ℕ) → i ≤ length xs → length (kept (λ k. f (getD xs k d)) i) ≡ count f (take i xs)
   kept-counted zero l = none-counted
   kept-counted (suc i) l =
-      rw (kept-more, length-append, one-or-none, kept-counted i (omega arith), take-suc xs i d l, count-more)
+      rw (next-kept, length-append, one-or-none, kept-counted i (omega arith), take-suc xs i d l, count-more)

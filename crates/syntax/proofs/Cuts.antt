@@ -2,7 +2,7 @@
 -- The argument: while no closer has been stray, closers never outnumber openers, so what the search carries along is
 -- what counting from the cursor gives; then each place is judged by the same tests in the scan and in the description.
 use mathlib.Core.Path.{_≡_, refl, sym, ap, ap₂, _∙_, subst}
-use mathlib.Core.Logic.{_⊎_, inl, inr, ⊎-elim, _↔_}
+use mathlib.Core.Logic.{⊎-elim, _↔_}
 use mathlib.Core.Bool.{Bool, true, false, _&&_, _||_, or-false}
 use mathlib.Core.List.{List, [], _∷_, _++_}
 use mathlib.Core.Option.{Option, none, some}
@@ -11,7 +11,7 @@ use native.Mathlib.Numerals.{add-one}
 use native.Mathlib.Decide.{ℕ-discrete, decLt}
 use native.Mathlib.Omega.{arith}
 use lib.Dec.{eqb}
-use lib.ListN.{length, getD}
+use lib.ListN.{length}
 use lib.Seq.{slice, slice-empty, slice-cons, take-suc, drop-append-le, length-take-le}
 use borrow.Author.Tests.{eqb-true, eqb-false, eq-eqb}
 use Rattle.plain.specs.Choice.{select}

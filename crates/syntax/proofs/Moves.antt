@@ -1,10 +1,10 @@
 -- The exact part's move and the whitespace part's test, case by case as the code tells them apart. In each, v is the
 -- walker that the code holds, and w the one that the definition speaks of.
-use mathlib.Core.Path.{_≡_, refl, sym, ap, _∙_}
+use mathlib.Core.Path.{_≡_, sym, ap, _∙_}
 use mathlib.Core.Bool.{Bool, true, false, _&&_, _||_}
 use mathlib.Core.List.{List}
-use Prim.Native.Nat.{ℕ, _+_, _≤_, _<_}
-use lib.Dec.{leb, ltb}
+use Prim.Native.Nat.{ℕ, _≤_, _<_}
+use lib.Dec.{ltb}
 use borrow.Author.Tests.{lt-ltb, le-ltb, le-leb, lt-leb}
 use Rattle.plain.specs.Choice.{select}
 use Rattle.syntax.specs.Token.{isWhitespace, sameLetter}

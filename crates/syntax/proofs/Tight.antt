@@ -1,8 +1,8 @@
 -- Any two answers that a promise of this crate allows are equal.
-use mathlib.Core.Path.{_≡_, refl, sym, ap, _∙_}
-use mathlib.Core.Bool.{Bool, true, false, true≢false, false≢true}
+use mathlib.Core.Path.{_≡_, refl, ap}
+use mathlib.Core.Bool.{Bool, true≢false, false≢true}
 use mathlib.Core.List.{List}
-use mathlib.Core.Option.{Option, none, some, Option·some-inj, Option·none-ne-some, Option·some-ne-none}
+use mathlib.Core.Option.{Option·some-inj, Option·none-ne-some, Option·some-ne-none}
 use Prim.Native.Nat.{ℕ}
 use native.Mathlib.Omega.{arith}
 use lib.ListN.{length}

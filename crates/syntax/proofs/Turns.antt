@@ -1,10 +1,8 @@
 -- One byte of the search for the cut, case by case as the code tells them apart.
-use mathlib.Core.Path.{_≡_, refl, sym, ap, _∙_, subst}
+use mathlib.Core.Path.{_≡_}
 use mathlib.Core.Bool.{Bool, true, false, _||_}
 use Prim.Native.Nat.{ℕ, _+_, _-_}
-use lib.Dec.{eqb}
 use borrow.Author.Tests.{eq-eqb, ne-eqb}
-use Rattle.plain.specs.Choice.{select}
 use Rattle.syntax.specs.Token.{sameLetter}
 use Rattle.syntax.specs.Cut.{isSolid, isWanted, isStray, takenIn, turnOf}
 use Rattle.syntax.specs.declared.walker.Search.{Search}
