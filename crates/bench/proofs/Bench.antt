@@ -11,9 +11,9 @@ use Rattle.defs.specs.Table.{wordAt, flagAt, fieldAt, partWordAt, partOf, ruleF
 use Rattle.defs.specs.Ruledef.{recordsOf, isTop, rulesetOf}
 use Rattle.defs.specs.RuledefMap.{leading, rulePrefix, linePrefix}
 use Rattle.extents.specs.Sheet.{sized, entryAt, entryFits, fitsAt, rowFits, halfFits, sheetFits, readable, endIn}
-use Rattle.readings.specs.Scene.{lookahead, sceneOf}
+use Rattle.readings.specs.Scene.{sceneOf}
 use Rattle.readings.specs.Plan.{run, _then_, each, mapped}
-use Rattle.readings.specs.Walk.{past, cutFor, candidates, anySame, fresh, firsts, ends, limits, walk, rulesetWalk, under, trial, tries, topPairs, scan}
+use Rattle.readings.specs.Walk.{past, lookahead, cutFor, candidates, anySame, fresh, firsts, ends, limits, walk, rulesetWalk, under, trial, tries, topPairs, scan}
 use Rattle.readings.specs.Lookup.{withPrefix, foundPairs, lookup}
 use Rattle.readings.specs.Answer.{exactParts, greatest, greatestCount, best, allWords, wordsOf}
 use Rattle.readings.specs.Call.{budgetFits, callWith}

@@ -3,7 +3,7 @@
 use mathlib.Core.Path.{_≡_, refl, sym, ap, _∙_, subst}
 use mathlib.Core.Logic.{_⊎_, inl, inr, ⊎-elim}
 use mathlib.Core.Bool.{Bool, true, false, _&&_}
-use mathlib.Core.List.{List, List·Memᴰ, List·Memᴰ·head, List·Memᴰ·tail, List·Memᴰ·cases-cons, List·Memᴰ·not-nil}
+use mathlib.Core.List.{List, [], _∷_, List·Memᴰ, List·Memᴰ·head, List·Memᴰ·tail, List·Memᴰ·cases-cons, List·Memᴰ·not-nil}
 use mathlib.Core.Option.{Option, none, some, Option·some-inj, Option·none-ne-some}
 use Prim.Native.Nat.{ℕ, _+_, _<_, min}
 use native.Mathlib.Omega.{arith}
@@ -16,9 +16,25 @@ use Rattle.syntax.specs.Token.{isWhitespace, sameLetter}
 use Rattle.syntax.specs.Walker.{byteAt, held, over, useful, gap}
 use Rattle.syntax.proofs.Useful.{held-within, useful-is, useful-one}
 use Rattle.defs.specs.declared.ruledef.Part.{Part}
-use Rattle.readings.specs.Scene.{Scene, walkerAt, lookahead, Lawful}
-use Rattle.readings.specs.Reading.{Useful, Exactly-at, Gap, Cut-for, Under, whole, up-to, Span}
-use Rattle.readings.specs.Walk.{usefulAt, past, isGap, cutBy, cutFor, listOf, limits, start}
+use Rattle.defs.specs.declared.ruledef.Part.the-variants.{Exact, Whitespace, Expression, Nested}
+use Rattle.readings.specs.Scene.{Scene, walkerAt, Lawful}
+use Rattle.readings.specs.Reading.{Useful, Exactly-at, Gap, Ahead, next, past-space, Cut-for, Under, whole, up-to, Span}
+use Rattle.readings.specs.Walk.{usefulAt, past, isGap, lookahead, cutBy, cutFor, listOf, limits, start}
+
+-- ---- lookahead
+
+pub ahead-declared : (ps : List Part) (x : ℕ) → lookahead ps ≡ some x → Ahead ps x
+unfolding lookahead
+ahead-declared [] x e = absurd (Option·none-ne-some x e)
+ahead-declared (Exact y ∷ ps) x e = subst (λ (z : ℕ). Ahead (Exact y ∷ ps) z) (Option·some-inj .0 e) next
+ahead-declared (Whitespace ∷ ps) x e = past-space (ahead-declared ps x e)
+ahead-declared (Expression ∷ ps) x e = absurd (Option·none-ne-some x e)
+ahead-declared (Nested r ∷ ps) x e = absurd (Option·none-ne-some x e)
+
+pub ahead-found : {ps : List Part} {x : ℕ} → Ahead ps x → lookahead ps ≡ some x
+unfolding lookahead
+ahead-found next = refl
+ahead-found (past-space a) = ahead-found a
 
 module _ (s : Scene) (l c : ℕ) where
   pub useful-found : Useful s l c (usefulAt s l c)
@@ -88,11 +104,11 @@ module _ (s : Scene) (l c : ℕ) where
       where
         go : (o : Option ℕ) → lookahead ps ≡ o → cutBy s l c o ≡ some m → Cut-for s l c ps m
         go none p q = absurd (Option·none-ne-some m q)
-        go (some x) p q = record { char = x; ahead = p; cuts = law .cut-at x l c m .0 q }
+        go (some x) p q = record { char = x; ahead = ahead-declared ps x p; cuts = law .cut-at x l c m .0 q }
 
     pub cut-found : (m : ℕ) → Cut-for s l c ps m → cutFor s l c ps ≡ some m
     unfolding cutFor
-    cut-found m k = ap (cutBy s l c) (k .ahead) ∙ law .cut-at (k .char) l c m .1 (k .cuts)
+    cut-found m k = ap (cutBy s l c) (ahead-found (k .ahead)) ∙ law .cut-at (k .char) l c m .1 (k .cuts)
 
     pub limit-declared : (m : ℕ) → List·Memᴰ m (limits s l c ps) → Under s l c ps m
     unfolding limits

@@ -13,7 +13,7 @@ use Rattle.syntax.specs.Walker.{byteAt, UsefulPlace}
 use Rattle.defs.specs.declared.ruledef.Part.{Part}
 use Rattle.defs.specs.declared.ruledef.Part.the-variants.{Exact, Whitespace, Expression, Nested}
 use Rattle.readings.specs.Tree.{Tree, node, Args, end, expr, nest}
-use Rattle.readings.specs.Scene.{Scene, walkerAt, lookahead}
+use Rattle.readings.specs.Scene.{Scene, walkerAt}
 
 -- p is the useful place at cursor c under limit l
 abbrev pub Useful : Scene → ℕ → ℕ → ℕ → Type 0
@@ -32,10 +32,16 @@ pub record Exactly-at (s : Scene) (l c x d : ℕ) : Type 0 where
 abbrev pub Gap : Scene → ℕ → ℕ → Type 0
 Gap s l c = (walkerAt (s .line) l c .limit ≤ walkerAt (s .line) l c .cursor) ⊎ (isWhitespace (byteAt (s .line) (walkerAt (s .line) l c .cursor)) ≡ true)
 
+-- Lookahead character: the next exact part after the parameter, over whitespace parts; none if a parameter or the end
+-- comes first.
+pub data Ahead : List Part → ℕ → Type 0 where
+  next : {x : ℕ} {ps : List Part} → Ahead (Exact x ∷ ps) x
+  past-space : {x : ℕ} {ps : List Part} → Ahead ps x → Ahead (Whitespace ∷ ps) x
+
 -- m is the cut of a parameter that the parts ps follow
 pub record Cut-for (s : Scene) (l c : ℕ) (ps : List Part) (m : ℕ) : Type 0 where
   pub char : ℕ
-  pub ahead : lookahead ps ≡ some char
+  pub ahead : Ahead ps char
   pub cuts : s .IsCut char l c m
 
 -- two ends have the same useful place under l

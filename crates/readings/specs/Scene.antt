@@ -1,6 +1,6 @@
 -- The scene: what a call is given, decoded. Its leaves are all that the relation and the walk see of table, line and sheet.
-use mathlib.Core.List.{List, [], _∷_}
-use mathlib.Core.Option.{Option, none, some}
+use mathlib.Core.List.{List, []}
+use mathlib.Core.Option.{Option, some}
 use mathlib.Core.Path.{_≡_}
 use mathlib.Core.Logic.{_↔_}
 use Prim.Native.Nat.{ℕ, _≤_}
@@ -12,7 +12,6 @@ use Rattle.syntax.specs.declared.walker.Walker.{Walker}
 use Rattle.defs.specs.Table.{rulesetsIn}
 use Rattle.defs.specs.Ruledef.{isTop, rulesetOf}
 use Rattle.defs.specs.declared.ruledef.Part.{Part}
-use Rattle.defs.specs.declared.ruledef.Part.the-variants.{Exact, Whitespace, Expression, Nested}
 use Rattle.extents.specs.Sheet.{freeEnd, greedyEnd}
 
 pub record Scene : Type 1 where
@@ -32,15 +31,6 @@ pub record Scene : Type 1 where
 -- the walker at cursor c under limit l, held to the line
 abbrev pub walkerAt : List ℕ → ℕ → ℕ → Walker
 walkerAt line l c = held line (record { cursor = c; limit = l })
-
--- Lookahead character: the next exact part after the parameter, over whitespace parts; none if a parameter or the end
--- comes first.
-unfoldable pub lookahead : List Part → Option ℕ
-lookahead [] = none
-lookahead (Exact x ∷ ps) = some x
-lookahead (Whitespace ∷ ps) = lookahead ps
-lookahead (Expression ∷ ps) = none
-lookahead (Nested r ∷ ps) = none
 
 -- what theorems use of a scene: the cut that is found is the declared one; ends and cuts lie between cursor and limit;
 -- rules and top rulesets have no double

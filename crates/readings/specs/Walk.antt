@@ -13,7 +13,7 @@ use Rattle.syntax.specs.Walker.{byteAt, useful, gap}
 use Rattle.defs.specs.declared.ruledef.Part.{Part}
 use Rattle.defs.specs.declared.ruledef.Part.the-variants.{Exact, Whitespace, Expression, Nested}
 use Rattle.readings.specs.Tree.{Tree, node, Args, end, expr, nest, sameTree}
-use Rattle.readings.specs.Scene.{Scene, walkerAt, lookahead}
+use Rattle.readings.specs.Scene.{Scene, walkerAt}
 use Rattle.readings.specs.Plan.{Plan, give, visit, keep, deep, _then_, each, when, after, mapped}
 
 -- the arguments from a place in a pattern on, with the cursor where it ended; a match with that cursor
@@ -35,6 +35,14 @@ past s l c x =
 
 abbrev pub isGap : Scene → ℕ → ℕ → Bool
 isGap s l c = gap (s .line) (walkerAt (s .line) l c)
+
+-- the lookahead character of a parameter that these parts follow
+unfoldable pub lookahead : List Part → Option ℕ
+lookahead [] = none
+lookahead (Exact x ∷ ps) = some x
+lookahead (Whitespace ∷ ps) = lookahead ps
+lookahead (Expression ∷ ps) = none
+lookahead (Nested r ∷ ps) = none
 
 abbrev pub cutBy : Scene → ℕ → ℕ → Option ℕ → Option ℕ
 cutBy s l c none = none
