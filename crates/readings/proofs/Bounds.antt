@@ -4,7 +4,9 @@ use mathlib.Core.Path.{_≡_, refl, sym, _∙_, subst, ap}
 use mathlib.Core.Logic.{inl, inr}
 use mathlib.Core.Bool.{Bool, true, false, not}
 use mathlib.Core.List.{List, [], _∷_, _++_, map, List·Memᴰ, List·Memᴰ·head, List·Memᴰ·tail, List·Memᴰ·cases-cons, List·Memᴰ·append-cases, List·Memᴰ·not-nil, Memᴰ·of-map}
-use Prim.Native.Nat.{ℕ, suc, _*_, _-_, _≤_, _<_}
+use Prim.Native.Nat.{ℕ, zero, suc, _+_, _*_, _-_, _≤_, _<_}
+use native.Mathlib.Nat.{mul-suc, suc-mul, mul-comm, mul-le-mul-left}
+use native.Mathlib.Decide.{decLe}
 use native.Mathlib.Omega.{arith}
 use lib.Dec.{eqb}
 use lib.ListN.{length, length-append, length-map}
@@ -36,7 +38,7 @@ use Rattle.readings.proofs.Packed.{lawful}
 use Rattle.readings.proofs.Scan.{Enough, scan-enough, tries-readings}
 use Rattle.readings.proofs.Best.{reached}
 use Rattle.readings.proofs.Spans.{exact-within, candidate-within, under-within, from-within, few-exact}
-use Rattle.readings.proofs.Sizes.{tries-paid, tries-stored, tries-shallow}
+use Rattle.readings.proofs.Sizes.{some-length, tries-paid, tries-stored, tries-shallow}
 use Rattle.readings.proofs.Calls.{Accepted, bad-table, bad-line, bad-sheet, bad-budget, stopped, walked-through, fits, short}
 use Rattle.readings.proofs.Numbers.{Case, table, bytes, extents, visits, walk, none-found, too-long, found, exactly}
 
@@ -51,12 +53,29 @@ mutual
   arg-length (expr x y a) = omega (arith, arg-length a)
   arg-length (nest x y t a) = omega (arith, length-append (treeWords t) (argWords a), tree-length t, arg-length a)
 
--- a pool's worth of records makes at most 12,288 words
-all-length : (ts : List Tree) → ((t : Tree) → List·Memᴰ t ts → treeRecords t ≤ room) → length (allWords ts) ≤ 12288 * length ts
+-- trees of at most q records each
+all-length : (q : ℕ) (ts : List Tree) → ((t : Tree) → List·Memᴰ t ts → treeRecords t ≤ q) → length (allWords ts) ≤ 3 * (q * length ts)
 unfolding allWords
-all-length [] h = omega arith
-all-length (t ∷ ts) h =
-    omega (arith, length-append (treeWords t) (allWords ts), tree-length t, h t (List·Memᴰ·head refl), all-length ts (λ u m. h u (List·Memᴰ·tail m)))
+all-length q [] h = omega arith
+all-length q (t ∷ ts) h =
+    omega
+    (arith, length-append (treeWords t) (allWords ts), tree-length t, h t (List·Memᴰ·head refl), mul-suc q (length ts), all-length q ts (λ u m. h u (List·Memᴰ·tail m)))
+
+-- two numbers with one sum have the greatest product where they are closest
+closest : (d a b : ℕ) → a + b ≡ 4097 → a + d ≡ 2048 → a * b ≤ 4196352
+closest zero a b e f =
+    let p : a ≡ 2048 = omega arith in
+    let q : b ≡ 2049 = omega arith in
+    rw (p, q) (omega arith)
+closest (suc d) a zero e f = absurd (omega arith)
+closest (suc d) a (suc b) e f = omega (arith, mul-suc a b, suc-mul a b, closest d (suc a) b (omega arith) (omega arith))
+
+at-closest : (a b : ℕ) → a + b ≡ 4097 → a * b ≤ 4196352
+at-closest a b e =
+    elim (decLe a 2048) [
+      | yes h ↦ closest (2048 - a) a b e (omega arith)
+      | no h ↦ omega (arith, mul-comm a b, closest (2048 - b) b a (omega arith) (omega (arith, h)))
+    ]
 
 kept-fewer : {A : Type 0} (f : A → Bool) (xs : List A) → length (keepIf f xs) ≤ length xs
 unfolding keepIf
@@ -145,7 +164,7 @@ module _ (s : Scene) (law : Lawful s) (small : Small s) where
     read t m =
         let g = run-done (tries s xs) budget 0 e .0 in
         let (i, n, q) = Memᴰ·of-map tree ms m in
-        (tries-readings s law xs enough g .only m, subst (λ (u : Tree). treeRecords u ≤ room) q (omega (arith, taken, tries-stored s xs g n)))
+        (tries-readings s law xs enough g .only m, subst (λ (u : Tree). treeRecords u ≤ room) q (omega (arith, taken, tries-stored s xs g n, some-length n)))
 
     kept-read : (t : Tree) → List·Memᴰ t (best s (map tree ms)) → Reading s t × (treeRecords t ≤ room)
     unfolding best
@@ -157,12 +176,12 @@ module _ (s : Scene) (law : Lawful s) (small : Small s) where
     kept-count =
         omega (arith, taken, kept-fewer (λ t. eqb (exactCount s t) (greatestCount s (map tree ms))) (map tree ms), length-map ms tree, tries-paid s xs (run-done (tries s xs) budget 0 e .0))
 
-    -- a call's trees have at most as many records as the call took
-    pub trees-stored : (t : Tree) → List·Memᴰ t (map tree ms) → treeRecords t ≤ used
+    -- a call's trees have at most as many records as the call took, one for each other match beside them
+    pub trees-stored : (t : Tree) → List·Memᴰ t (map tree ms) → treeRecords t + length ms ≤ used + 1
     trees-stored t m =
         let (g, _, u) = run-done (tries s xs) budget 0 e in
         let (i, n, q) = Memᴰ·of-map tree ms m in
-        subst (λ (x : Tree). treeRecords x ≤ used) q (omega (arith, u, tries-stored s xs g n))
+        subst (λ (x : Tree). treeRecords x + length ms ≤ used + 1) q (omega (arith, u, tries-stored s xs g n))
 
     -- every answer word fits 16 bits
     pub words-fit : Fit (answerWords s (map tree ms))
@@ -171,10 +190,17 @@ module _ (s : Scene) (law : Lawful s) (small : Small s) where
         fit-more (omega (arith, kept-count))
         (fit-more (omega (arith, greatest-few (map tree ms) (λ t m. read t m .0), solids-short)) (all-fit (best s (map tree ms)) kept-read))
 
-    -- and the words needed fit 32
-    pub words-few : length (answerWords s (map tree ms)) < 4294967296
-    unfolding wordsOf
-    words-few = omega (arith, kept-count, all-length (best s (map tree ms)) (λ t m. kept-read t m .1))
+    -- and the words needed fit 32, those of 255 calls together too
+    pub words-few : length (answerWords s (map tree ms)) ≤ 12589058
+    unfolding wordsOf best
+    words-few =
+        let (_, _, u) = run-done (tries s xs) budget 0 e in
+        let many = kept-fewer (λ t. eqb (exactCount s t) (greatestCount s (map tree ms))) (map tree ms) in
+        let most : length ms ≤ 4096 = omega (arith, taken, tries-paid s xs (run-done (tries s xs) budget 0 e .0)) in
+        let each-tree = all-length (4097 - length ms) (best s (map tree ms))
+        (λ t m. omega (arith, taken, u, trees-stored t (kept-mem (λ t. eqb (exactCount s t) (greatestCount s (map tree ms))) (map tree ms) m .0))) in
+        let product = mul-le-mul-left {m = length (best s (map tree ms))} {n = length ms} (4097 - length ms) (omega (arith, many, length-map ms tree)) in
+        omega (arith, each-tree, product, at-closest (4097 - length ms) (length ms) (omega (arith, most)))
 
 -- ---- of an accepted call
 
@@ -221,23 +247,23 @@ deepest s law v {w} {u} {ms} e r =
 -- ---- the words that any call needs, accepted or not
 
 module _ (order : Scene → List (ℕ × ℕ)) (enough : (s : Scene) → Lawful s → Enough s (order s)) (t line sheet : List ℕ) (budget : ℕ) (b : List ℕ) where
-  pub call-words : callWith order t line sheet budget b .words < 4294967296
+  pub call-words : callWith order t line sheet budget b .words ≤ 12589058
   call-words = go (exactly order t line sheet budget b (callWith order t line sheet budget b .number) .0 refl)
     where
       s : Scene
       s = sceneOf t line sheet
 
       few : Accepted t line sheet budget → (left used : ℕ) (m : Match) (ms : List Match) → run (tries s (order s)) budget 0 ≡ done left used (m ∷ ms)
-          → length (answerWords s (tree m ∷ map tree ms)) < 4294967296
+          → length (answerWords s (tree m ∷ map tree ms)) ≤ 12589058
       few a left used m ms e = words-few s (law a) (small t line sheet budget a) (order s) (enough s (law a)) budget e
         where
           law : Accepted t line sheet budget → Lawful s
           law a = lawful t line sheet (a .extents)
 
-      none-needed : {r : Told} → callWith order t line sheet budget b ≡ r → r .words ≡ 0 → callWith order t line sheet budget b .words < 4294967296
+      none-needed : {r : Told} → callWith order t line sheet budget b ≡ r → r .words ≡ 0 → callWith order t line sheet budget b .words ≤ 12589058
       none-needed e z = omega (arith, ap (λ (r : Told). r .words) e, z)
 
-      go : {n : ℕ} → Case order t line sheet budget b n → callWith order t line sheet budget b .words < 4294967296
+      go : {n : ℕ} → Case order t line sheet budget b n → callWith order t line sheet budget b .words ≤ 12589058
       go (table e) = none-needed (bad-table order t line sheet budget b e) refl
       go (bytes p e f) = none-needed (bad-line order t line sheet budget b p e f) refl
       go (extents e f g) = none-needed (bad-sheet order t line sheet budget b e f g) refl

@@ -1,11 +1,11 @@
 -- What a walk has found against what it took: a record for each match it lists, at least as many records as any of its
 -- trees has, and no tree deeper than the depths it was given.
-use mathlib.Core.Path.{_≡_}
+use mathlib.Core.Path.{_≡_, refl, sym, ap, _∙_}
 use mathlib.Core.Logic.{inl, inr}
 use mathlib.Core.Bool.{Bool, true, false}
 use mathlib.Core.Option.{Option, none, some, Option·none-ne-some}
-use mathlib.Core.List.{List, [], _∷_, _++_, map, List·Memᴰ, List·Memᴰ·cases-cons, List·Memᴰ·not-nil, List·Memᴰ·eq-of-singleton}
-use Prim.Native.Nat.{ℕ, zero, suc, _≤_}
+use mathlib.Core.List.{List, [], _∷_, _++_, map, List·Memᴰ, List·Memᴰ·head, List·Memᴰ·tail, List·Memᴰ·append-cases, List·Memᴰ·cases-cons, List·Memᴰ·not-nil, List·Memᴰ·eq-of-singleton}
+use Prim.Native.Nat.{ℕ, zero, suc, _+_, _≤_}
 use native.Mathlib.Omega.{arith}
 use lib.Dec.{eqb}
 use lib.ListN.{length, length-append, length-map}
@@ -48,6 +48,28 @@ module _ {A B : Type 0} where
       let d = then-cost (each xs f) (λ b. give (a ++ b)) q .1 in
       rw (← e) (omega (arith, length-append a b, k x a p, each-paid f xs k b q))
 
+  -- what a member measures beside all answers, up to some slack
+  each-stored : (size : B → ℕ) (slack : ℕ) (f : A → Plan (List B)) (xs : List A) → ((x : A) → Paid (f x))
+      → ((x : A) (r : List B) (z : B) → List·Memᴰ x xs → Gives (f x) r → List·Memᴰ z r → size z + length r ≤ records (f x) + slack)
+      → (rs : List B) (z : B) → Gives (each xs f) rs → List·Memᴰ z rs → size z + length rs ≤ records (each xs f) + slack
+  unfolding each _then_
+  each-stored size slack f [] paid stored rs z h m = absurd (List·Memᴰ·not-nil (rw (← got h) at m))
+  each-stored size slack f (x ∷ xs) paid stored rs z h m =
+      let (a, b, p, q, e) = each-parts f x xs h in
+      let c = then-cost (f x) (λ a. each xs f then λ b. give (a ++ b)) p .1 in
+      let d = then-cost (each xs f) (λ b. give (a ++ b)) q .1 in
+      elim (List·Memᴰ·append-cases a (rw (← e) at m)) [
+        | inl i ↦ rw (← e) (omega (arith, length-append a b, stored x a z (List·Memᴰ·head refl) p i, each-paid f xs paid b q, c, d))
+        | inr j ↦
+            rw (← e)
+            (omega (arith, length-append a b, paid x a p, each-stored size slack f xs paid (λ y r w i. stored y r w (List·Memᴰ·tail i)) b z q j, c, d))
+      ]
+
+  mapped-length : (f : A → B) (p : Plan (List A)) {rs : List B} {xs : List A} → Gives (mapped f p) rs → Gives p xs → length rs ≡ length xs
+  mapped-length f p h g =
+      let (ys, k, e) = mapped-parts f p h in
+      ap length (sym e) ∙ length-map ys f ∙ ap length (got (sym k ∙ g))
+
   mapped-paid : (f : A → B) (p : Plan (List A)) → Paid p → Paid (mapped f p)
   mapped-paid f p k rs h =
       let (xs, g, e) = mapped-parts f p h in
@@ -77,46 +99,67 @@ module _ (s : Scene) (below : Below) (fin : ℕ → Bool) where
       (λ i rs h. omega (arith, mapped-paid (addNest s l c i) (walk s below fin ps l (i .1)) (walk-paid ps l (i .1)) rs h)) rs h₁ in
       omega (arith, t, k)
 
--- ---- a walk took at least the records of each of its trees
+-- ---- a walk took the records of each of its trees, and one for each other match that it lists
 
 -- what is found below took the records of each tree
 abbrev Stored : Below → Type 0
 Stored below = (r m c : ℕ) (is : List Match) (i : Match) → Gives (below r m c) is → List·Memᴰ i is → treeRecords (i .0) ≤ records (below r m c)
 
+abbrev found-records : Found → ℕ
+found-records x = argRecords (x .0)
+
 module _ (s : Scene) (below : Below) (ok : Stored below) (fin : ℕ → Bool) where
-  walk-stored : (ps : List Part) (l c : ℕ) {rs : List Found} {x : Found} → Gives (walk s below fin ps l c) rs → List·Memᴰ x rs
-      → suc (argRecords (x .0)) ≤ records (walk s below fin ps l c)
+  walk-stored : (ps : List Part) (l c : ℕ) (rs : List Found) (x : Found) → Gives (walk s below fin ps l c) rs → List·Memᴰ x rs
+      → found-records x + length rs ≤ records (walk s below fin ps l c)
   unfolding walk
-  walk-stored [] l c {rs} {x} h m =
+  walk-stored [] l c rs x h m =
       let (t, g) = when-source (fin c) _ h m in
       let q : x ≡ (end, c) = List·Memᴰ·eq-of-singleton (rw (← got g) at m) in
-      rw (q, t) (omega arith)
-  walk-stored (Exact y ∷ ps) l c h m =
+      rw (q, t, ← got g) (omega arith)
+  walk-stored (Exact y ∷ ps) l c rs x h m =
       let (d, q, g) = after-source _ (past s l c y) h m in
-      rw q (walk-stored ps l d g m)
-  walk-stored (Whitespace ∷ ps) l c h m =
+      rw q (walk-stored ps l d rs x g m)
+  walk-stored (Whitespace ∷ ps) l c rs x h m =
       let (t, g) = when-source (isGap s l c) _ h m in
-      rw t (walk-stored ps l c g m)
-  walk-stored (Expression ∷ ps) l c h m =
-      let (e, i, r, g, n) = each-source _ (ends s l c ps) h m in
-      let (xs, g₁, y, k, q) = mapped-source (addExpr s l c e) (walk s below fin ps l e) g n in
-      rw (← q) (omega (arith, each-records _ (ends s l c ps) h i, mapped-records (addExpr s l c e) (walk s below fin ps l e) g, walk-stored ps l e g₁ k))
-  walk-stored (Nested r ∷ ps) l c h m =
+      rw t (walk-stored ps l c rs x g m)
+  walk-stored (Expression ∷ ps) l c rs x h m =
+      omega (
+        arith,
+        each-stored found-records 0 (λ e. keep (mapped (addExpr s l c e) (walk s below fin ps l e))) (ends s l c ps)
+            (λ e rs h. omega (arith, mapped-paid (addExpr s l c e) (walk s below fin ps l e) (walk-paid s below fin ps l e) rs h))
+            (λ e r z _ g n.
+            let (xs, g₁, y, k, q) = mapped-source (addExpr s l c e) (walk s below fin ps l e) g n in
+            rw (← q)
+            (omega
+            (arith, mapped-length (addExpr s l c e) (walk s below fin ps l e) g g₁, mapped-records (addExpr s l c e) (walk s below fin ps l e) g, walk-stored ps l e xs y g₁ k)))
+            rs x h m,
+      )
+  walk-stored (Nested r ∷ ps) l c rs x h m =
       let (is, gi, h₁) = then-gives _ (each (limits s l c ps) (λ m. below r m c)) h in
-      let (i, j, rr, g, n) = each-source _ (firsts sameMatch is) h₁ m in
-      let (xs, g₁, y, k, q) = mapped-source (addNest s l c i) (walk s below fin ps l (i .1)) g n in
-      let (lm, jm, ri, g₂, ni) = each-source (λ m. below r m c) (limits s l c ps) gi (firsts-mem sameMatch is j) in
       let t = then-cost (each (limits s l c ps) (λ m. below r m c)) (λ is. each (firsts sameMatch is) (λ i. keep (mapped (addNest s l c i) (walk s below fin ps l (i .1))))) gi .1 in
-      rw (← q)
-      (omega (
+      omega (
         arith,
         t,
-        ok r lm c ri i g₂ ni,
-        each-records (λ m. below r m c) (limits s l c ps) gi jm,
-        each-records _ (firsts sameMatch is) h₁ j,
-        mapped-records (addNest s l c i) (walk s below fin ps l (i .1)) g,
-        walk-stored ps l (i .1) g₁ k,
-      ))
+        each-stored found-records (records (each (limits s l c ps) (λ m. below r m c))) (λ i. keep (mapped (addNest s l c i) (walk s below fin ps l (i .1)))) (firsts sameMatch is)
+            (λ i rs h. omega (arith, mapped-paid (addNest s l c i) (walk s below fin ps l (i .1)) (walk-paid s below fin ps l (i .1)) rs h))
+            (λ i rr z j g n.
+            let (xs, g₁, y, k, q) = mapped-source (addNest s l c i) (walk s below fin ps l (i .1)) g n in
+            let (lm, jm, ri, g₂, ni) = each-source (λ m. below r m c) (limits s l c ps) gi (firsts-mem sameMatch is j) in
+            rw (← q)
+            (omega (
+              arith,
+              ok r lm c ri i g₂ ni,
+              each-records (λ m. below r m c) (limits s l c ps) gi jm,
+              mapped-length (addNest s l c i) (walk s below fin ps l (i .1)) g g₁,
+              mapped-records (addNest s l c i) (walk s below fin ps l (i .1)) g,
+              walk-stored ps l (i .1) xs y g₁ k,
+            )))
+            rs x h₁ m,
+      )
+
+pub some-length : {A : Type 0} {xs : List A} {x : A} → List·Memᴰ x xs → 1 ≤ length xs
+some-length (List·Memᴰ·head e) = omega arith
+some-length (List·Memᴰ·tail m) = omega arith
 
 -- ---- and lists none that is deeper than it may go
 
@@ -156,7 +199,8 @@ module _ (s : Scene) where
         arith,
         each-records _ (s .rules r) g i,
         mapped-records (named r k) (walk s below (λ e. true) (s .parts r k) m c) h,
-        walk-stored s below ok (λ e. true) (s .parts r k) m c h₁ j,
+        walk-stored s below ok (λ e. true) (s .parts r k) m c xs x h₁ j,
+        some-length j,
       ))
 
   under-stored : (d : ℕ) → Stored (under s d)
@@ -183,18 +227,22 @@ module _ (s : Scene) (xs : List (ℕ × ℕ)) {is : List Match} (g : Gives (trie
   unfolding tries trial
   tries-paid = each-paid (trial s) xs (λ x. mapped-paid (named (x .0) (x .1)) _ (walk-paid s (under s depths) (eqb (length (s .line))) (s .parts (x .0) (x .1)) (length (s .line)) 0)) is g
 
-  pub tries-stored : {i : Match} → List·Memᴰ i is → treeRecords (i .0) ≤ records (tries s xs)
+  -- the records of any one tree, and one for each other match
+  pub tries-stored : {i : Match} → List·Memᴰ i is → treeRecords (i .0) + length is ≤ records (tries s xs) + 1
   unfolding tries trial
-  tries-stored m =
-      let (x, j, rs, h, n) = each-source (trial s) xs g m in
+  tries-stored {i} m =
+      each-stored (λ z. treeRecords (z .0)) 1 (trial s) xs
+      (λ x. mapped-paid (named (x .0) (x .1)) _ (walk-paid s (under s depths) (eqb (length (s .line))) (s .parts (x .0) (x .1)) (length (s .line)) 0))
+      (λ x r z _ h n.
       let (ys, h₁, y, k, q) = mapped-source (named (x .0) (x .1)) _ h n in
       rw (← q)
       (omega (
         arith,
-        each-records (trial s) xs g j,
+        mapped-length (named (x .0) (x .1)) _ h h₁,
         mapped-records (named (x .0) (x .1)) _ h,
-        walk-stored s (under s depths) (under-stored s depths) (eqb (length (s .line))) (s .parts (x .0) (x .1)) (length (s .line)) 0 h₁ k,
-      ))
+        walk-stored s (under s depths) (under-stored s depths) (eqb (length (s .line))) (s .parts (x .0) (x .1)) (length (s .line)) 0 ys y h₁ k,
+      )))
+      is i g m
 
   pub tries-shallow : {i : Match} → List·Memᴰ i is → treeDepth (i .0) ≤ depths
   unfolding tries trial
