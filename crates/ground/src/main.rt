@@ -9,6 +9,76 @@ use syntax::walker::Walker;
 
 const OUT: i32 = 1;
 
+// Rules: `mov` and whitespace; `mo`; whitespace; `m` of a nested ruleset; `movab`.
+const OVERLAPS: [u16; 33] = [
+    2,
+    5,
+    13,
+    0,
+    1,
+    0,
+    0,
+    4,
+    0,
+    4,
+    2,
+    0,
+    6,
+    1,
+    0,
+    7,
+    5,
+    1,
+    12,
+    1,
+    109,
+    111,
+    118,
+    256,
+    77,
+    79,
+    256,
+    109,
+    111,
+    118,
+    97,
+    98,
+    109,
+];
+
+// Document 01's table T.
+const T: [u16; 29] = [
+    2,
+    4,
+    12,
+    0,
+    1,
+    0,
+    0,
+    5,
+    0,
+    5,
+    5,
+    1,
+    10,
+    1,
+    1,
+    11,
+    1,
+    109,
+    111,
+    118,
+    256,
+    257,
+    109,
+    111,
+    118,
+    256,
+    513,
+    112,
+    113,
+];
+
 fn say(text: &[u8]) {
     io::write_all(OUT, text);
 }
@@ -90,49 +160,13 @@ fn found(table: &[u16], line: &[u8]) {
     say(b"\n");
 }
 
-// Rules: `mov` and whitespace; `mo`; whitespace; `m` of a nested ruleset; `movab`.
 fn prefixes() {
     line_prefix(b"  MoV p");
     line_prefix(b"a\tB");
-    let table = [
-        2,
-        5,
-        13,
-        0,
-        1,
-        0,
-        0,
-        4,
-        0,
-        4,
-        2,
-        0,
-        6,
-        1,
-        0,
-        7,
-        5,
-        1,
-        12,
-        1,
-        109,
-        111,
-        118,
-        256,
-        77,
-        79,
-        256,
-        109,
-        111,
-        118,
-        97,
-        98,
-        109,
-    ];
-    found(&table, b"mov p");
-    found(&table, b"MO");
-    found(&table, b"mo vab");
-    found(&table, b"");
+    found(&OVERLAPS, b"mov p");
+    found(&OVERLAPS, b"MO");
+    found(&OVERLAPS, b"mo vab");
+    found(&OVERLAPS, b"");
 }
 
 fn checked(line: &[u8]) {
@@ -173,47 +207,17 @@ fn tabled(what: &[u8], table: &[u16]) {
     }
 }
 
-fn tables() {
-    tabled(
-        b"table T",
-        &[
-            2,
-            4,
-            12,
-            0,
-            1,
-            0,
-            0,
-            5,
-            0,
-            5,
-            5,
-            1,
-            10,
-            1,
-            1,
-            11,
-            1,
-            109,
-            111,
-            118,
-            256,
-            257,
-            109,
-            111,
-            118,
-            256,
-            513,
-            112,
-            113,
-        ],
-    );
+fn good_tables() {
+    tabled(b"table T", &T);
     tabled(b"one empty rule", &[1, 1, 0, 0, 0, 0, 0]);
     tabled(b"no rule, a spare part", &[1, 0, 1, 0, 97]);
     tabled(
         b"shared parts",
         &[1, 2, 4, 0, 0, 0, 2, 0, 1, 2, 97, 98, 99, 100],
     );
+}
+
+fn bad_records() {
     tabled(b"no word", &[]);
     tabled(b"one word", &[1]);
     tabled(b"no ruleset", &[0, 0, 0]);
@@ -229,6 +233,9 @@ fn tables() {
         b"counts past P in sum",
         &[1, 2, 3, 0, 0, 0, 2, 0, 0, 2, 97, 98, 99],
     );
+}
+
+fn parts() {
     tabled(
         b"nine parameters",
         &[
@@ -296,6 +303,8 @@ fn main() {
     cuts();
     prefixes();
     lines();
-    tables();
+    good_tables();
+    bad_records();
+    parts();
     sheets();
 }
