@@ -16,3 +16,4 @@ pub mod Spans
 pub mod Sizes
 pub mod Bounds
 pub mod Tight
+pub mod Records

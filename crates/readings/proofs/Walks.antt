@@ -179,7 +179,7 @@ module _ (s : Scene) (law : Lawful s) where
         (λ rs h. mapped-has (named r k) (walk s below (λ e. true) (s .parts r k) m c) h (λ xs h₁. walk-complete s law below ok (λ e. true) w refl h₁));
   }
 
-  under-lists : (d : ℕ) → Lists s (under s d)
+  pub under-lists : (d : ℕ) → Lists s (under s d)
   unfolding under
   under-lists zero = record {
     sound = λ r m c g n. absurd (Option·none-ne-some _ g);

@@ -8,3 +8,4 @@ pub mod Answer
 pub mod Call
 pub mod Demand
 pub mod Measure
+pub mod Records
