@@ -1,0 +1,178 @@
+// The choices of a parameter's step: the lookahead character, the cut, an expression's candidate ends, and the limits
+// under which a nested step tries its ruleset. From `src/asm/matcher/mod.rs`: `find_lookahead_char`,
+// `parse_with_lookahead`, `parse_with_and_without_lookahead`, whose parser becomes plain calls, and `remove_duplicates` as
+// `match_with_expr` uses it. Nothing is refused: any words, line, sheet, walker and places.
+use defs::ruledef;
+use defs::ruledef::Part;
+use extents::Extent;
+use syntax::walker::Lookahead;
+use syntax::walker::Walker;
+ghost use mathlib.Core.Path.{_≡_};
+ghost use mathlib.Core.List.{List, []};
+ghost use Prim.Native.Nat.{ℕ, _≤_, _<_};
+ghost use lib.ListN.{length, take};
+ghost use Rattle.syntax.specs.Walker.{useful};
+ghost use Rattle.syntax.specs.Cut.{cutSays};
+ghost use Rattle.defs.specs.Table.{partsBetween};
+ghost use Rattle.extents.specs.Sheet.{endOf};
+ghost use Rattle.readings.specs.Scene.{walkerAt, sceneOf};
+ghost use Rattle.readings.specs.Walk.{lookahead, cutFor, anySame, ends, limits};
+ghost use Rattle.lookahead.specs.Held.{charSays, heldEnds, heldLimits, samePlace, added, freeTo};
+
+// How many limits there are with a cut.
+const WITH_CUT: usize = 2;
+
+// The lookahead character of a parameter.
+pub enum Character {
+    Found(u8),
+    Nothing,
+}
+
+// An expression's candidate ends, in their order; 0 past their count.
+pub struct Ends {
+    pub count: usize,
+    pub places: [usize; 3],
+}
+
+// The limits of a nested step, in their order; 0 past their count.
+pub struct Limits {
+    pub count: usize,
+    pub places: [usize; 2],
+}
+
+// A place past the table is held to the table's end.
+fn within(table: &[u16], end: usize) -> usize
+    ensures { λ r. ⌜ r ≤ length (now (table .entry)) ⌝ }
+    ensures { λ r. ⌜ ((at : ℕ) → partsBetween (now (table .entry)) at r ≡ partsBetween (now (table .entry)) at end) ⌝ }
+{
+    if end <= table.len() {
+        return end;
+    }
+    table.len()
+}
+
+// The next exact part from word place `at` to before `end`, over whitespace parts; none if a parameter or the end comes
+// first.
+pub fn find_lookahead_char(table: &[u16], at: usize, end: usize) -> Character
+    ensures answers { λ r. ⌜ charSays r ≡ lookahead (partsBetween (now (table .entry)) at end) ⌝ }
+{
+    let stop = within(table, end);
+    let mut here = at;
+    while here < stop {
+        match ruledef::part_at(table, here) {
+            Part::Exact(b) => return Character::Found(b),
+            Part::Whitespace => here += 1,
+            Part::Expression => return Character::Nothing,
+            Part::Nested(_) => return Character::Nothing,
+        }
+    }
+    Character::Nothing
+}
+
+// The cut of a parameter that the parts from `at` to before `end` follow, sought from the walker's cursor to its limit.
+pub fn find_cut(table: &[u16], line: &[u8], walker: Walker, at: usize, end: usize) -> Lookahead
+    ensures answers { λ r. ⌜ cutSays r ≡ cutFor (sceneOf (now (table .entry)) (now (line .entry)) []) (walker .limit) (walker .cursor) (partsBetween (now (table .entry)) at end) ⌝ }
+{
+    match find_lookahead_char(table, at, end) {
+        Character::Found(wanted) => walker.find_lookahead_char_index(line, wanted),
+        Character::Nothing => Lookahead::Nothing,
+    }
+}
+
+// The useful place of an end under the limit.
+fn useful_place(line: &[u8], limit: usize, end: usize) -> usize
+    ensures { λ r. ⌜ r ≡ useful (now (line .entry)) (walkerAt (now (line .entry)) limit end) ⌝ }
+{
+    let walker = Walker { cursor: end, limit };
+    walker.next_useful_index(line)
+}
+
+// Whether one of the ends has the same useful place under the limit.
+fn is_duplicate(line: &[u8], limit: usize, ends: Ends, end: usize) -> bool
+    requires { ⌜ ends .count ≤ 3 ⌝ }
+    ensures { λ r. ⌜ r ≡ anySame (samePlace (now (line .entry)) limit) (take (ends .count) (ends .places)) end ⌝ }
+{
+    let place = useful_place(line, limit, end);
+    let mut i: usize = 0;
+    while i < ends.count {
+        if useful_place(line, limit, ends.places[i]) == place {
+            return true;
+        }
+        i += 1;
+    }
+    false
+}
+
+// One candidate more: it stays unless one before it has the same useful place. Those that did not stay need no look, since
+// one that stayed has their useful place.
+fn add_end(line: &[u8], limit: usize, ends: Ends, extent: Extent) -> Ends
+    requires { ⌜ ends .count < 3 ⌝ }
+    ensures { λ r. ⌜ ((es : List ℕ) → ends ≡ heldEnds es → r ≡ heldEnds (added (samePlace (now (line .entry)) limit) es (endOf extent))) ⌝ }
+{
+    let end = match extent {
+        Extent::Ends(end) => end,
+        Extent::Nothing => return ends,
+    };
+    if is_duplicate(line, limit, ends, end) {
+        return ends;
+    }
+    let count = ends.count;
+    let mut places = ends.places;
+    places[count] = end;
+    Ends {
+        count: count + 1,
+        places,
+    }
+}
+
+// free(c, cut), if there is a cut.
+fn free_to_cut(sheet: &[u8], n: usize, c: usize, cut: Lookahead) -> Extent
+    ensures { λ r. ⌜ endOf r ≡ freeTo (now (sheet .entry)) n c (cutSays cut) ⌝ }
+{
+    match cut {
+        Lookahead::At(limit) => extents::free(sheet, n, c, limit),
+        Lookahead::Nothing => Extent::Nothing,
+    }
+}
+
+// An expression's candidate ends: free(c, l), free(c, cut) if there is a cut, greedy(c, l), in that order. Of ends with
+// the same useful place under l, only the first stays.
+pub fn find_ends(
+    table: &[u16],
+    line: &[u8],
+    sheet: &[u8],
+    walker: Walker,
+    at: usize,
+    end: usize,
+) -> Ends
+    ensures answers { λ r. ⌜ r ≡ heldEnds (ends (sceneOf (now (table .entry)) (now (line .entry)) (now (sheet .entry))) (walker .limit) (walker .cursor) (partsBetween (now (table .entry)) at end)) ⌝ }
+{
+    let n = line.len();
+    let c = walker.cursor;
+    let l = walker.limit;
+    let none = Ends {
+        count: 0,
+        places: [0; 3],
+    };
+    let whole = add_end(line, l, none, extents::free(sheet, n, c, l));
+    let cut = find_cut(table, line, walker, at, end);
+    let both = add_end(line, l, whole, free_to_cut(sheet, n, c, cut));
+    add_end(line, l, both, extents::greedy(sheet, n, c, l))
+}
+
+// The limits under which a nested step tries its ruleset: l, and then the cut if there is one.
+pub fn find_limits(table: &[u16], line: &[u8], walker: Walker, at: usize, end: usize) -> Limits
+    ensures answers { λ r. ⌜ r ≡ heldLimits (limits (sceneOf (now (table .entry)) (now (line .entry)) []) (walker .limit) (walker .cursor) (partsBetween (now (table .entry)) at end)) ⌝ }
+{
+    let whole = walker.limit;
+    match find_cut(table, line, walker, at, end) {
+        Lookahead::At(cut) => Limits {
+            count: WITH_CUT,
+            places: [whole, cut],
+        },
+        Lookahead::Nothing => Limits {
+            count: 1,
+            places: [whole, 0],
+        },
+    }
+}
