@@ -1,0 +1,3 @@
+pub mod Words
+pub mod Meanings
+pub mod Gathers

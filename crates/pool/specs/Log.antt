@@ -1,0 +1,90 @@
+-- The pool's log: what the first words of the lent store say, one record a word.
+use mathlib.Core.Path.{_≡_}
+use mathlib.Core.Bool.{Bool, true, false}
+use mathlib.Core.List.{List, [], _∷_, _++_, map}
+use Prim.Native.Nat.{ℕ, zero, suc, _+_, _/_, _%_, _≤_, _<_}
+use lib.Dec.{eqb}
+use lib.ListN.{length, take, getD}
+use Rattle.plain.specs.Choice.{select}
+use Rattle.pool.specs.declared.ArgumentKind.{ArgumentKind}
+use Rattle.pool.specs.declared.ArgumentKind.the-variants.{Expr, Nested}
+use Rattle.pool.specs.declared.Argument.{Argument}
+use Rattle.pool.specs.declared.Record.{Record}
+use Rattle.pool.specs.declared.Record.the-variants.{Kept, Completed}
+use Rattle.pool.specs.declared.Pool.{Pool}
+use Rattle.pool.specs.declared.Room.{Room}
+use Rattle.pool.specs.declared.Room.the-variants.{Taken, Full}
+
+-- what number stands for a kind, and what kind a number stands for
+abbrev pub codeOf : ArgumentKind → ℕ
+codeOf Expr = 0
+codeOf (Nested m) = m + 1
+
+unfoldable pub kindOf : ℕ → ArgumentKind
+kindOf zero = Expr
+kindOf (suc m) = Nested m
+
+-- a word's digits as a record; the lowest is the kind of record
+unfoldable pub argumentOf : ℕ → Record
+argumentOf w =
+    Kept
+    (record {
+      start = w / 8192 % 128;
+      end = w / 8192 / 128 % 128;
+      kind = kindOf (w / 8192 / 128 / 128);
+    })
+    (w % 8192)
+
+unfoldable pub matchOf : ℕ → Record
+matchOf w =
+    Completed (w % 32) (w / 32 % 32) (w / 32 / 32 % 512) (w / 32 / 32 / 512 % 8192) (w / 32 / 32 / 512 / 8192 % 128)
+
+unfoldable pub decode : ℕ → Record
+decode w = select (eqb (w % 2) 0) (argumentOf (w / 2)) (matchOf (w / 2))
+
+-- the records of the first words
+unfoldable pub logOf : List ℕ → ℕ → List Record
+logOf store used = map decode (take used store)
+
+-- what fits a word
+pub record ArgumentFits (a : Argument) (prev : ℕ) : Type 0 where
+  pub start : a .start < 128
+  pub end : a .end < 128
+  pub before : prev < 8192
+  pub inner : codeOf (a .kind) < 8192
+
+pub record MatchFits (depth set rule args end : ℕ) : Type 0 where
+  pub depths : depth < 32
+  pub sets : set < 32
+  pub rules : rule < 512
+  pub last : args < 8192
+  pub place : end < 128
+
+-- a record is taken, the next of the log, or 4,096 are
+pub record Added (used : ℕ) (store store′ : List ℕ) (x : Record) (p : Pool) : Type 0 where
+  pub room : used < 4096
+  pub counted : p .used ≡ used + 1
+  pub grown : logOf store′ (used + 1) ≡ logOf store used ++ (x ∷ [])
+
+abbrev pub TakenAs : Room → ℕ → List ℕ → List ℕ → Record → Type 0
+TakenAs (Taken p) used store store′ x = Added used store store′ x p
+TakenAs Full used store store′ x = used ≡ 4096
+
+-- what stands past a log's end
+abbrev pub nothing : Record
+nothing = Kept (record { start = 0; end = 0; kind = Expr }) 0
+
+-- what every word's digits are below
+pub record ArgumentDigits (a : Argument) (prev : ℕ) : Type 0 where
+  pub start : a .start < 128
+  pub end : a .end < 128
+  pub before : prev < 8192
+
+abbrev pub Digits : Record → Type 0
+Digits (Kept a p) = ArgumentDigits a p
+Digits (Completed d r k a e) = MatchFits d r k a e
+
+-- a match's depth; 32 for an argument
+abbrev pub depthIn : Record → ℕ
+depthIn (Kept a p) = 32
+depthIn (Completed d r k a e) = d
