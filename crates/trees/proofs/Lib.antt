@@ -1,0 +1,7 @@
+pub mod Arguments
+pub mod Sizes
+pub mod Parts
+pub mod Counts
+pub mod Sames
+pub mod Writes
+pub mod Tight
