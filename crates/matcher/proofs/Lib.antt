@@ -1,0 +1,12 @@
+pub mod Outcomes
+pub mod Logs
+pub mod Finish
+pub mod Inners
+pub mod Turns
+pub mod Loops
+pub mod Turned
+pub mod Places
+pub mod Held
+pub mod Exprs
+pub mod Rules
+pub mod Nests

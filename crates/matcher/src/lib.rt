@@ -1,0 +1,2 @@
+// The matcher.
+pub mod walk;
