@@ -1,0 +1,5 @@
+pub mod Tops
+pub mod Greatest
+pub mod Bounds
+pub mod Written
+pub mod Tight
