@@ -10,3 +10,6 @@ pub mod Held
 pub mod Exprs
 pub mod Rules
 pub mod Nests
+pub mod Checks
+pub mod Tries
+pub mod Telling

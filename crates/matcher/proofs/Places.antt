@@ -84,6 +84,13 @@ module _ (t line sheet : List ℕ) (l c : ℕ) where
     unfolding sceneOf
     gap-past e = sym (ap (λ (y : Bool × Walker). y .0) (sym (ap stepSays e) ∙ says))
 
+    -- it consumes nothing
+    pub gap-stays : (next : Walker) → step ≡ Past next → c ≤ l → l ≤ length line → next .cursor ≡ c
+    unfolding held
+    gap-stays next e h k =
+        let q : next .cursor ≡ w .cursor = ap (λ (y : Bool × Walker). y .1 .cursor) (sym (ap stepSays e) ∙ says) in
+        omega arith
+
     pub gap-stayed : {back : Walker} → step ≡ Stayed back → isGap s l c ≡ false
     unfolding sceneOf
     gap-stayed e = sym (ap (λ (y : Bool × Walker). y .0) (sym (ap stepSays e) ∙ says))
@@ -227,11 +234,13 @@ module _ {t line sheet starts store₀ : List ℕ} {place : Place} {w : Walker} 
               (exact-stayed t line sheet (w .limit) c x step says e))
 
         module _ (space : part ≡ Whitespace) (step : Step) (says : stepSays step ≡ expectWhitespace line (held line (record { cursor = c; limit = w .limit }))) where
-          pub along-whitespace : {next : Walker} → step ≡ Past next → Along t line sheet place (w .limit) (place .end) (pool .used) store₀ visits (place .at) (w .cursor) store (left - 1) (at + 1) c
-          along-whitespace e =
-              moved (along .inside)
+          pub along-whitespace : {next : Walker} → step ≡ Past next → Along t line sheet place (w .limit) (place .end) (pool .used) store₀ visits (place .at) (w .cursor) store (left - 1) (at + 1) (next .cursor)
+          along-whitespace {next} e =
+              subst (λ (d : ℕ). Along t line sheet place (w .limit) (place .end) (pool .used) store₀ visits (place .at) (w .cursor) store (left - 1) (at + 1) d)
+              (sym (gap-stays t line sheet (w .limit) c step says next e (along .inside) (ready .limit)))
+              (moved (along .inside)
               (past-whitespace t line sheet (place .depth) at (place .end) (w .limit) c left (pool .used) more before (ready .whole) part is space
-              (gap-past t line sheet (w .limit) c step says e))
+              (gap-past t line sheet (w .limit) c step says e)))
 
           pub along-no-whitespace : {back : Walker} → step ≡ Stayed back → Left planned place log store (Done (left - 1) pool)
           along-no-whitespace e =

@@ -170,7 +170,7 @@ fn inner_match(store: &[usize], used: usize, first: usize, m: usize, depth: usiz
 }
 
 // The rule walk, from a place in a pattern on.
-fn match_with_rule(
+pub fn match_with_rule(
     table: &[u16],
     line: &[u8],
     sheet: &[u8],
@@ -215,7 +215,10 @@ fn match_with_rule(
             Part::Whitespace => {
                 let step = here.maybe_expect_whitespace(line);
                 match step {
-                    Step::Past(_) => {}
+                    // It consumes nothing: the walker comes back where it stood.
+                    Step::Past(next) => {
+                        cursor = next.cursor;
+                    }
                     Step::Stayed(_) => {
                         return Walked::Done(left, pool);
                     }

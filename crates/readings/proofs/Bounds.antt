@@ -31,7 +31,7 @@ use Rattle.readings.specs.Reading.{Span, From, finish, exact, whitespace
 use Rattle.readings.specs.Plan.{done, run, records, room}
 use Rattle.readings.specs.Walk.{Match, topPairs, tries, scan, depths}
 use Rattle.readings.specs.Answer.{exactCount, greatestCount, greatest, best, argCount, treeWords, argWords, allWords, wordsOf, answerWords}
-use Rattle.readings.specs.Call.{Told, tree, callWith}
+use Rattle.readings.specs.Call.{Accepted, Told, tree, callWith}
 use Rattle.readings.specs.Measure.{treeRecords, argRecords, treeDepth, solidsBefore, solids}
 use Rattle.readings.proofs.Runs.{run-done, run-room}
 use Rattle.readings.proofs.Packed.{lawful}
@@ -39,7 +39,7 @@ use Rattle.readings.proofs.Scan.{Enough, scan-enough, tries-readings}
 use Rattle.readings.proofs.Best.{reached}
 use Rattle.readings.proofs.Spans.{exact-within, candidate-within, under-within, from-within, few-exact}
 use Rattle.readings.proofs.Sizes.{some-length, tries-paid, tries-stored, tries-shallow}
-use Rattle.readings.proofs.Calls.{Accepted, bad-table, bad-line, bad-sheet, bad-budget, stopped, walked-through, fits, short}
+use Rattle.readings.proofs.Calls.{bad-table, bad-line, bad-sheet, bad-budget, stopped, walked-through, fits, short}
 use Rattle.readings.proofs.Numbers.{Case, table, bytes, extents, visits, walk, none-found, too-long, found, exactly}
 
 -- ---- how many words
@@ -182,6 +182,10 @@ module _ (s : Scene) (law : Lawful s) (small : Small s) where
         let (g, _, u) = run-done (tries s xs) budget 0 e in
         let (i, n, q) = Memᴰ·of-map tree ms m in
         subst (λ (x : Tree). treeRecords x + length ms ≤ used + 1) q (omega (arith, u, tries-stored s xs g n))
+
+    -- each tree's count and words are few
+    pub tree-few : (t : Tree) → List·Memᴰ t (map tree ms) → (exactCount s t ≤ 120) × (length (treeWords t) ≤ 12288)
+    tree-few t m = let (r, few) = read t m in (omega (arith, few-exact s law r, solids-short), omega (arith, tree-length t, few))
 
     -- every answer word fits 16 bits
     pub words-fit : Fit (answerWords s (map tree ms))

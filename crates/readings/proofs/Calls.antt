@@ -19,17 +19,10 @@ use Rattle.readings.specs.Reading.{Readings}
 use Rattle.readings.specs.Plan.{done, stop, run}
 use Rattle.readings.specs.Walk.{Match, tries}
 use Rattle.readings.specs.Answer.{greatestCount, best, answerWords}
-use Rattle.readings.specs.Call.{Told, refusedAt, stoppedAfter, written, matched, tree, ended, budgetFits, callWith}
+use Rattle.readings.specs.Call.{Accepted, Told, refusedAt, stoppedAfter, written, matched, tree, ended, budgetFits, callWith}
 use Rattle.readings.proofs.Runs.{run-spent}
 use Rattle.readings.specs.Demand.{Demand3}
 use Rattle.readings.proofs.Best.{best-readings, best-counts}
-
--- table, line, sheet and budget that get no number from 2 to 5
-pub record Accepted (t line sheet : List ℕ) (budget : ℕ) : Type 0 where
-  pub table : tableFits t ≡ true
-  pub bytes : faultAt line ≡ none
-  pub extents : sheetFits sheet (length line) ≡ true
-  pub visits : budgetFits budget ≡ true
 
 module _ (order : Scene → List (ℕ × ℕ)) (t line sheet : List ℕ) (budget : ℕ) (b : List ℕ) where
   abbrev answer : Told

@@ -17,8 +17,8 @@ use Rattle.readings.specs.Scene.{Scene, sceneOf}
 use Rattle.readings.specs.Plan.{Plan, give, visit, keep, deep, Outcome, done, stop, run, room, pooled}
 use Rattle.readings.specs.Walk.{Match, tries}
 use Rattle.readings.specs.Answer.{answerWords}
-use Rattle.readings.specs.Call.{Told, tree, budgetFits, callWith}
-use Rattle.readings.proofs.Calls.{Accepted, bad-table, bad-line, bad-sheet, bad-budget, stopped, walked-through, fits, short}
+use Rattle.readings.specs.Call.{Accepted, Told, tree, budgetFits, callWith}
+use Rattle.readings.proofs.Calls.{bad-table, bad-line, bad-sheet, bad-budget, stopped, walked-through, fits, short}
 
 -- a run that is refused is refused with 6, 7 or 8
 pub stop-numbers : {A : Type 0} (p : Plan A) (v u : ℕ) {n w : ℕ} → run p v u ≡ stop n w → (n ≡ 6) ⊎ ((n ≡ 7) ⊎ (n ≡ 8))

@@ -74,6 +74,19 @@ module _ {A : Type 0} where
       go false e k = let z : _≡_ {A = ℕ} 8 6 = cc in absurd (omega arith)
   run-spent deep v u h = let z : _≡_ {A = ℕ} 7 6 = cc in absurd (omega arith)
 
+  -- a refusal leaves no more visits than there were
+  pub stop-left : (p : Plan A) (v u : ℕ) {n w : ℕ} → run p v u ≡ stop n w → w ≤ v
+  unfolding run
+  stop-left (give x) v u h = absurd (refused (sym h))
+  stop-left (visit p) zero u {n} {w} h = let e : w ≡ 0 = cc in omega arith
+  stop-left (visit p) (suc v) u h = omega (arith, stop-left p v u h)
+  stop-left (keep p) v u {n} {w} h = go (ltb u room) h (λ k. stop-left p v (suc u) k)
+    where
+      go : (b : Bool) → pooled b v (run p v (suc u)) ≡ stop n w → (run p v (suc u) ≡ stop n w → w ≤ v) → w ≤ v
+      go true e k = k e
+      go false e k = let q : w ≡ v = cc in omega arith
+  stop-left deep v u {n} {w} h = let q : w ≡ v = cc in omega arith
+
 -- ---- cost together
 
 pub then-cost : {A B : Type 0} (p : Plan A) (f : A → Plan B) {a : A} → Gives p a

@@ -18,12 +18,12 @@ use Rattle.readings.specs.Scene.{Scene, walkerAt, sceneOf}
 use Rattle.readings.specs.Plan.{done, run}
 use Rattle.readings.specs.Walk.{Match, topPairs, tries, scan}
 use Rattle.readings.specs.Lookup.{foundPairs, lookup}
-use Rattle.readings.specs.Call.{Told, refusedAt, tree, ended, budgetFits, lined, callWith, scanCall, lookupCall}
-use Rattle.readings.specs.Demand.{Demand3}
+use Rattle.readings.specs.Call.{Accepted, Told, refusedAt, tree, ended, budgetFits, lined, callWith, scanCall, lookupCall}
+use Rattle.readings.specs.Demand.{Within, Demand3}
 use Rattle.readings.proofs.Scan.{scan-readings}
 use Rattle.readings.proofs.Packed.{lawful}
 use Rattle.readings.proofs.Lookups.{lookup-readings, lookup-done}
-use Rattle.readings.proofs.Calls.{Accepted, walked-through, visits-told, demand}
+use Rattle.readings.proofs.Calls.{walked-through, visits-told, demand}
 
 -- the rules that a lookup tries
 abbrev prefixed : Scene → List (ℕ × ℕ)
@@ -33,30 +33,26 @@ module _ (t line sheet : List ℕ) (budget : ℕ) (b : List ℕ) (ok : Accepted 
   abbrev s : Scene
   s = sceneOf t line sheet
 
-  -- the scan stays within visits, depth and pool
-  abbrev Within : Type 0
-  Within = (left used : ℕ) × (ms : List Match) × (run (scan s) budget 0 ≡ done left used ms)
-
   -- demand 3 for the full scan
-  pub scan-demand : Within → Demand3 s b (scanCall t line sheet budget b)
+  pub scan-demand : Within t line sheet budget → Demand3 s b (scanCall t line sheet budget b)
   unfolding scan
-  scan-demand (left, used, ms, e) =
-      subst (Demand3 s b) (sym (walked-through topPairs t line sheet budget b ok left used ms e))
-      (demand s (budget - left) b (map tree ms) (scan-readings s (lawful t line sheet (ok .extents)) budget e))
+  scan-demand w =
+      subst (Demand3 s b) (sym (walked-through topPairs t line sheet budget b ok (w .left) (w .used) (w .matches) (w .ends)))
+      (demand s (budget - w .left) b (map tree (w .matches)) (scan-readings s (lawful t line sheet (ok .extents)) budget (w .ends)))
 
   -- and for lookup, whenever the scan stays within: the same readings, with no more visits
-  pub lookup-demand : Within → Demand3 s b (lookupCall t line sheet budget b) × (lookupCall t line sheet budget b .visits ≤ scanCall t line sheet budget b .visits)
+  pub lookup-demand : Within t line sheet budget → Demand3 s b (lookupCall t line sheet budget b) × (lookupCall t line sheet budget b .visits ≤ scanCall t line sheet budget b .visits)
   unfolding scan lookup
-  lookup-demand (left, used, ms, e) =
+  lookup-demand w =
       let law = lawful t line sheet (ok .extents) in
-      let (left′, used′, ms′, e′, less) = lookup-done s law budget e in
+      let (left′, used′, ms′, e′, less) = lookup-done s law budget (w .ends) in
       let there = walked-through prefixed t line sheet budget b ok left′ used′ ms′ e′ in
-      let here = walked-through topPairs t line sheet budget b ok left used ms e in (
+      let here = walked-through topPairs t line sheet budget b ok (w .left) (w .used) (w .matches) (w .ends) in (
         subst (Demand3 s b) (sym there) (demand s (budget - left′) b (map tree ms′) (lookup-readings s law budget e′)),
         omega (
           arith,
           ap (λ (r : Told). r .visits) there ∙ visits-told s (budget - left′) b (map tree ms′),
-          ap (λ (r : Told). r .visits) here ∙ visits-told s (budget - left) b (map tree ms),
+          ap (λ (r : Told). r .visits) here ∙ visits-told s (budget - w .left) b (map tree (w .matches)),
         ),
       )
 

@@ -1,5 +1,6 @@
 -- The whole call: which number, which fields, which words, for any table, line, sheet, budget and buffer.
-use mathlib.Core.Bool.{Bool, not, _&&_}
+use mathlib.Core.Path.{_≡_}
+use mathlib.Core.Bool.{Bool, true, not, _&&_}
 use mathlib.Core.List.{List, [], _∷_, _++_, map}
 use mathlib.Core.Option.{Option, none, some}
 use Prim.Native.Nat.{ℕ, _-_}
@@ -55,6 +56,13 @@ ended s budget b (stop n left) = stoppedAfter n (budget - left) b
 -- budget: 1 to 1,000,000 visits
 unfoldable pub budgetFits : ℕ → Bool
 budgetFits v = leb 1 v && leb v 1000000
+
+-- table, line, sheet and budget that get no number from 2 to 5
+pub record Accepted (t line sheet : List ℕ) (budget : ℕ) : Type 0 where
+  pub table : tableFits t ≡ true
+  pub bytes : faultAt line ≡ none
+  pub extents : sheetFits sheet (length line) ≡ true
+  pub visits : budgetFits budget ≡ true
 
 abbrev pub lined : Option ℕ → List ℕ → Told → Told
 lined none b r = r

@@ -6,10 +6,19 @@ use Prim.Native.Nat.{ℕ, _≤_, _<_}
 use lib.ListN.{length, drop}
 use Rattle.plain.specs.Lists.{Apart}
 use Rattle.readings.specs.Tree.{Tree}
-use Rattle.readings.specs.Scene.{Scene}
+use Rattle.readings.specs.Scene.{Scene, sceneOf}
 use Rattle.readings.specs.Reading.{Reading}
+use Rattle.readings.specs.Plan.{done, run}
+use Rattle.readings.specs.Walk.{Match, scan}
 use Rattle.readings.specs.Answer.{exactCount, wordsOf}
 use Rattle.readings.specs.Call.{Told}
+
+-- the full scan stays within visits, depth and pool
+pub record Within (t line sheet : List ℕ) (budget : ℕ) : Type 0 where
+  pub left : ℕ
+  pub used : ℕ
+  pub matches : List Match
+  pub ends : run (scan (sceneOf t line sheet)) budget 0 ≡ done left used matches
 
 -- a reading that no reading exceeds in exact count
 pub record Greatest (s : Scene) (t : Tree) : Type 0 where

@@ -767,28 +767,28 @@ r-enum-told-2 t c = search needs
 r-maybe-expect-whitespace-requires : (t : ℕ) → R.Need-maybe-expect-whitespace-requires (r-calls t) (r-at t) rule.Post r-Inv r-μ
 r-maybe-expect-whitespace-requires t c κs = search needs
 
-r-enum-told-3 : (t : ℕ) → R.Need-enum-told-3 (r-calls t) (r-at t) rule.Post r-Inv r-μ
-r-enum-told-3 t c = search needs
+r-enum-known-step-2 : (t : ℕ) → R.Need-enum-known-step-2 (r-calls t) (r-at t) rule.Post r-Inv r-μ
+r-enum-known-step-2 t c = search needs
 
 r-loop-less-2 : (t : ℕ) → R.Need-loop-less-2 (r-calls t) (r-at t) rule.Post r-Inv r-μ
 r-loop-less-2 t c =
-    let c-if1 = c .before .before .before .before .before .before .before .if1 in
+    let c-if1 = c .before .before .before .before .before .before .before .before .if1 in
     omega (arith, c-if1 .left)
 
 r-loop-again-2 : (t : ℕ) → R.Need-loop-again-2 (r-calls t) (r-at t) rule.Post r-Inv r-μ
 r-loop-again-2 t c =
-    let c-pre = c .before .before .before .before .before .before .before .before .before .before .before .before .before .before .pre in
-    let c-loop = c .before .before .before .before .before .before .before .before .loop in
-    let c-if1 = c .before .before .before .before .before .before .before .if1 in
-    let c-if2 = c .before .before .before .before .before .before .if2 in
-    let c-part-at = c .before .before .before .before .before .part-at in
-    let c-enum-told2 = c .before .before .before .enum-told2 in
-    let c-maybe-expect-whitespace = c .before .before .maybe-expect-whitespace in
-    let c-enum-told3 = c .enum-told3 in
-    along-whitespace (c-pre .1) _ (c-loop .inv) (c-if1 .left) (c-if2 .left) _ (c-part-at .ensures) (c-enum-told2 .given .1) _ (c-maybe-expect-whitespace .ensures) (c-enum-told3 .given .1)
+    let c-pre = c .before .before .before .before .before .before .before .before .before .before .before .before .before .before .before .pre in
+    let c-loop = c .before .before .before .before .before .before .before .before .before .loop in
+    let c-if1 = c .before .before .before .before .before .before .before .before .if1 in
+    let c-if2 = c .before .before .before .before .before .before .before .if2 in
+    let c-part-at = c .before .before .before .before .before .before .part-at in
+    let c-enum-told2 = c .before .before .before .before .enum-told2 in
+    let c-maybe-expect-whitespace = c .before .before .before .maybe-expect-whitespace in
+    let c-step2 = c .before .step2 in
+    along-whitespace (c-pre .1) _ (c-loop .inv) (c-if1 .left) (c-if2 .left) _ (c-part-at .ensures) (c-enum-told2 .given .1) _ (c-maybe-expect-whitespace .ensures) (c-step2 .given .1)
 
-r-enum-told-4 : (t : ℕ) → R.Need-enum-told-4 (r-calls t) (r-at t) rule.Post r-Inv r-μ
-r-enum-told-4 t c = search needs
+r-enum-told-3 : (t : ℕ) → R.Need-enum-told-3 (r-calls t) (r-at t) rule.Post r-Inv r-μ
+r-enum-told-3 t c = search needs
 
 r-same-length-4 : (t : ℕ) → R.Need-same-length-4 (r-calls t) (r-at t) rule.Post r-Inv r-μ
 r-same-length-4 t c =
@@ -804,11 +804,11 @@ r-returns-4 t c =
     let c-part-at = c .before .before .before .before .before .part-at in
     let c-enum-told2 = c .before .before .before .enum-told2 in
     let c-maybe-expect-whitespace = c .before .before .maybe-expect-whitespace in
-    let c-enum-told4 = c .enum-told4 in
-    along-no-whitespace (c-pre .1) _ (c-loop .inv) (c-if1 .left) (c-if2 .left) _ (c-part-at .ensures) (c-enum-told2 .given .1) _ (c-maybe-expect-whitespace .ensures) (c-enum-told4 .given .1)
+    let c-enum-told3 = c .enum-told3 in
+    along-no-whitespace (c-pre .1) _ (c-loop .inv) (c-if1 .left) (c-if2 .left) _ (c-part-at .ensures) (c-enum-told2 .given .1) _ (c-maybe-expect-whitespace .ensures) (c-enum-told3 .given .1)
 
-r-enum-told-5 : (t : ℕ) → R.Need-enum-told-5 (r-calls t) (r-at t) rule.Post r-Inv r-μ
-r-enum-told-5 t c = search needs
+r-enum-told-4 : (t : ℕ) → R.Need-enum-told-4 (r-calls t) (r-at t) rule.Post r-Inv r-μ
+r-enum-told-4 t c = search needs
 
 r-past-requires : (t : ℕ) → R.Need-past-requires (r-calls t) (r-at t) rule.Post r-Inv r-μ
 r-past-requires t c κs = search needs
@@ -836,10 +836,10 @@ r-returns-5 t c =
     let c-if1 = c .before .before .before .before .before .before .before .before .before .if1 in
     let c-if2 = c .before .before .before .before .before .before .before .before .if2 in
     let c-part-at = c .before .before .before .before .before .before .before .part-at in
-    let c-enum-told5 = c .before .before .before .before .before .enum-told5 in
+    let c-enum-told4 = c .before .before .before .before .before .enum-told4 in
     let c-past = c .before .before .before .before .past in
     let c-match-with-expr = c .before .before .match-with-expr in
-    along-expression (c-pre .1) _ (c-loop .inv) (c-if1 .left) (c-if2 .left) _ (c-part-at .ensures) (c-enum-told5 .given .1) (c-past .ensures) (c-match-with-expr .ensures)
+    along-expression (c-pre .1) _ (c-loop .inv) (c-if1 .left) (c-if2 .left) _ (c-part-at .ensures) (c-enum-told4 .given .1) (c-past .ensures) (c-match-with-expr .ensures)
 
 r-enum-known-part-2 : (t : ℕ) → R.Need-enum-known-part-2 (r-calls t) (r-at t) rule.Post r-Inv r-μ
 r-enum-known-part-2 t c = search needs
@@ -887,4 +887,4 @@ pub +match-with-expr+match-with-nested-ruledef+match-with-rule-spec : {M : Type 
     (λ t. N.spec (n-calls t) (n-at t) nested.Post n-Inv2 n-μ2 n-Inv n-μ n-Inv3 n-μ3
     (n-returns t) (n-next-useful-index-requires t) (n-find-limits-requires t) (n-mul-begin t) (n-shared-slice-read-begin t) (n-cast-begin t) (n-add-count t) (n-mul-count t) (n-shared-slice-read-count t) (n-cast-count t) (n-sub-count t) (n-loop-holds t) (n-mul-t56 t) (n-element-copy-out-t60 t) (n-add-pass t) (n-loop2-holds t) (n-loop-less t) (n-loop-again t) (n-add-parts-of t) (n-cast-parts-of t) (n-parts-of-requires t) (n-add-t62 t) (n-add-rule t) (n-match-with-rule-requires t) (n-enum-known-got t) (n-loop2-less t) (n-loop2-again t) (n-enum-known-got-2 t) (n-same-length t) (n-returns-2 t) (n-loop3-holds t) (n-add-m t) (n-add-inner-match t) (n-inner-match-requires t) (n-enum-told t) (n-loop3-less t) (n-loop3-again t) (n-enum-known-found t) (n-least-requires t) (n-keep-requires t) (n-enum-told-2 t) (n-same-length-2 t) (n-returns-3 t) (n-enum-known-room t) (n-after-requires t) (n-match-with-rule-requires-2 t) (n-enum-known-got-3 t) (n-loop3-less-2 t) (n-loop3-again-2 t) (n-enum-known-got-4 t) (n-same-length-3 t) (n-returns-4 t) (n-same-length-4 t) (n-returns-5 t))
     (λ t. R.spec (r-calls t) (r-at t) rule.Post r-Inv r-μ
-    (r-loop-holds t) (r-same-length t) (r-returns t) (r-sub-left t) (r-finish-requires t) (r-same-length-2 t) (r-returns-2 t) (r-part-at-requires t) (r-add-at t) (r-enum-known-part t) (r-maybe-expect-char-requires t) (r-enum-known-step t) (r-loop-less t) (r-loop-again t) (r-enum-told t) (r-same-length-3 t) (r-returns-3 t) (r-enum-told-2 t) (r-maybe-expect-whitespace-requires t) (r-enum-told-3 t) (r-loop-less-2 t) (r-loop-again-2 t) (r-enum-told-4 t) (r-same-length-4 t) (r-returns-4 t) (r-enum-told-5 t) (r-past-requires t) (r-match-with-expr-requires t) (r-same-length-5 t) (r-returns-5 t) (r-enum-known-part-2 t) (r-past-requires-2 t) (r-match-with-nested-ruledef-requires t) (r-same-length-6 t) (r-returns-6 t))
+    (r-loop-holds t) (r-same-length t) (r-returns t) (r-sub-left t) (r-finish-requires t) (r-same-length-2 t) (r-returns-2 t) (r-part-at-requires t) (r-add-at t) (r-enum-known-part t) (r-maybe-expect-char-requires t) (r-enum-known-step t) (r-loop-less t) (r-loop-again t) (r-enum-told t) (r-same-length-3 t) (r-returns-3 t) (r-enum-told-2 t) (r-maybe-expect-whitespace-requires t) (r-enum-known-step-2 t) (r-loop-less-2 t) (r-loop-again-2 t) (r-enum-told-3 t) (r-same-length-4 t) (r-returns-4 t) (r-enum-told-4 t) (r-past-requires t) (r-match-with-expr-requires t) (r-same-length-5 t) (r-returns-5 t) (r-enum-known-part-2 t) (r-past-requires-2 t) (r-match-with-nested-ruledef-requires t) (r-same-length-6 t) (r-returns-6 t))

@@ -1,0 +1,103 @@
+-- The checks of a call: what each finds is what the whole call's definition tests, in its order.
+use mathlib.Core.Path.{_≡_, refl, sym, ap, _∙_}
+use mathlib.Core.Bool.{Bool, true, false, not, _&&_}
+use mathlib.Core.Option.{Option, none, some, Option·none-ne-some, Option·some-inj}
+use mathlib.Core.List.{List, [], _∷_}
+use Prim.Native.Nat.{ℕ, suc, _+_, _-_, _≤_, _<_}
+use native.Mathlib.Omega.{arith}
+use lib.Dec.{leb, ltb}
+use lib.ListN.{length}
+use borrow.Author.Tests.{le-leb, lt-leb, ltb-false}
+use Rattle.plain.specs.Choice.{select}
+use Rattle.plain.proofs.Tests.{and-both, and-false-left, and-false-right}
+use Rattle.syntax.specs.Line.{isAllowed, firstBad, endsOpen, orElse, faultAt, numbered, lineSays, lineVerdict}
+use Rattle.syntax.specs.declared.line.LineCheck.{LineCheck}
+use Rattle.syntax.specs.declared.line.LineCheck.the-variants as LineCheck
+use Rattle.defs.specs.Table.{tableFits}
+use Rattle.extents.specs.Sheet.{sheetFits}
+use Rattle.readings.specs.Call.{Accepted, budgetFits}
+use Rattle.readings.proofs.Calls.{bad-table, bad-line, bad-sheet, bad-budget}
+use Rattle.matcher.specs.declared.Answer.{Answer}
+use Rattle.matcher.specs.declared.Answer.the-variants.{BadTable, BadLine, BadSheet, BadBudget}
+use Rattle.matcher.specs.declared.Checked.{Checked}
+use Rattle.matcher.specs.declared.Checked.the-variants.{Good, Bad}
+use Rattle.matcher.specs.Told.{orderOf, CheckedAs, accepts, refuses}
+
+-- ---- the line's fault
+
+first-within : (bs : List ℕ) (i p : ℕ) → firstBad bs i ≡ some p → p < i + length bs
+unfolding firstBad
+first-within [] i p e = absurd (Option·none-ne-some p e)
+first-within (b ∷ bs) i p e = go (isAllowed b) e (λ k. first-within bs (suc i) p k)
+  where
+    go : (a : Bool) → select a (firstBad bs (suc i)) (some i) ≡ some p → (firstBad bs (suc i) ≡ some p → p < suc i + length bs) → p < i + suc (length bs)
+    go true q k = omega (arith, k q)
+    go false q k = omega (arith, Option·some-inj .0 q)
+
+pub fault-small : (line : List ℕ) (p : ℕ) → faultAt line ≡ some p → p ≤ 120
+unfolding faultAt
+fault-small line p e = long (ltb 120 (length line)) refl e
+  where
+    last : (b : Bool) → length line ≤ 120 → select b (some (length line - 1)) none ≡ some p → p ≤ 120
+    last true h q = omega (arith, Option·some-inj .0 q)
+    last false h q = absurd (Option·none-ne-some p q)
+
+    byte : (o : Option ℕ) → firstBad line 0 ≡ o → length line ≤ 120 → orElse o (select (endsOpen line) (some (length line - 1)) none) ≡ some p → p ≤ 120
+    byte none i h q = last (endsOpen line) h q
+    byte (some j) i h q = omega (arith, first-within line 0 j i, Option·some-inj .0 q)
+
+    long : (b : Bool) → ltb 120 (length line) ≡ b → select b (some 120) (orElse (firstBad line 0) (select (endsOpen line) (some (length line - 1)) none)) ≡ some p → p ≤ 120
+    long true i q = omega (arith, Option·some-inj .0 q)
+    long false i q = byte (firstBad line 0) refl (ltb-false 120 (length line) i) q
+
+module _ (line : List ℕ) (found : LineCheck) (says : lineSays found ≡ lineVerdict line) where
+  pub line-good : found ≡ LineCheck.Good → faultAt line ≡ none
+  line-good e = go (faultAt line) (sym (ap lineSays e) ∙ says)
+    where
+      go : (o : Option ℕ) → _≡_ {A = ℕ × ℕ} (0, 0) (numbered o) → o ≡ none
+      go none q = refl
+      go (some p) q = let z : _≡_ {A = ℕ} 0 3 = ap (λ (x : ℕ × ℕ). x .0) q in absurd (omega arith)
+
+  pub line-bad : {p : ℕ} → found ≡ LineCheck.Bad p → faultAt line ≡ some p
+  line-bad {p} e = go (faultAt line) (sym (ap lineSays e) ∙ says)
+    where
+      go : (o : Option ℕ) → _≡_ {A = ℕ × ℕ} (3, p) (numbered o) → o ≡ some p
+      go none q = let z : _≡_ {A = ℕ} 3 0 = ap (λ (x : ℕ × ℕ). x .0) q in absurd (omega arith)
+      go (some r) q = ap some (sym (ap (λ (x : ℕ × ℕ). x .1) q))
+
+-- ---- the checks, in their order
+
+module _ (t line sheet : List ℕ) (budget : ℕ) where
+  pub table-bad : tableFits t ≡ false → CheckedAs t line sheet budget (Bad BadTable)
+  table-bad e = refuses (λ how b. sym (bad-table (orderOf how) t line sheet budget b e))
+
+  module _ (table : tableFits t ≡ true) where
+    pub bytes-bad : (p : ℕ) → faultAt line ≡ some p → CheckedAs t line sheet budget (Bad (BadLine p))
+    bytes-bad p e = refuses (λ how b. sym (bad-line (orderOf how) t line sheet budget b p table e))
+
+    module _ (bytes : faultAt line ≡ none) where
+      pub extents-bad : sheetFits sheet (length line) ≡ false → CheckedAs t line sheet budget (Bad BadSheet)
+      extents-bad e = refuses (λ how b. sym (bad-sheet (orderOf how) t line sheet budget b table bytes e))
+
+      module _ (extents : sheetFits sheet (length line) ≡ true) where
+        refused : budgetFits budget ≡ false → CheckedAs t line sheet budget (Bad BadBudget)
+        refused e = refuses (λ how b. sym (bad-budget (orderOf how) t line sheet budget b table bytes extents e))
+
+        pub budget-none : budget ≡ 0 → CheckedAs t line sheet budget (Bad BadBudget)
+        unfolding budgetFits
+        budget-none e = refused (and-false-left (leb 1 budget) (leb budget 1000000) (lt-leb 1 budget (omega arith)))
+
+        pub budget-great : 1000000 < budget → CheckedAs t line sheet budget (Bad BadBudget)
+        unfolding budgetFits
+        budget-great h = refused (and-false-right (leb 1 budget) (leb budget 1000000) (lt-leb budget 1000000 h))
+
+        pub all-good : (budget ≡ 0 → ⊥) → budget ≤ 1000000 → CheckedAs t line sheet budget Good
+        unfolding budgetFits
+        all-good ne h =
+            accepts
+            (record {
+              table = table;
+              bytes = bytes;
+              extents = extents;
+              visits = and-both (leb 1 budget) (leb budget 1000000) (le-leb 1 budget (omega (arith, ne))) (le-leb budget 1000000 h);
+            })

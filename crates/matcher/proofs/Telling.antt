@@ -1,0 +1,240 @@
+-- The whole call, told: refused by a check, stopped by the walk, or the matches that the walk left, measured and written.
+-- The matches of depth 0 in the log are those that the plan lists, so the call's definition applies to them.
+use mathlib.Core.Path.{_≡_, refl, sym, ap, subst, _∙_}
+use mathlib.Core.Bool.{Bool, true, false}
+use mathlib.Core.List.{List, [], _∷_, _++_, map, List·Memᴰ, List·Memᴰ·not-nil}
+use Prim.Native.Nat.{ℕ, _+_, _-_, _≤_, _<_, max}
+use native.Mathlib.Omega.{arith}
+use lib.Dec.{eqb}
+use lib.ListN.{length, drop, take}
+use borrow.Author.Tests.{eq-eqb}
+use Rattle.plain.specs.Choice.{select}
+use Rattle.plain.specs.Lists.{keepIf}
+use Rattle.plain.proofs.Members.{kept-has}
+use Rattle.defs.specs.RuledefMap.{linePrefix, topRules, foundRules}
+use Rattle.defs.specs.Ruledef.{startsOf}
+use Rattle.readings.specs.Tree.{Tree}
+use Rattle.readings.specs.Scene.{Scene, Lawful, sceneOf}
+use Rattle.readings.specs.Plan.{Outcome, done, stop, run}
+use Rattle.readings.specs.Walk.{Match, tries, topPairs}
+use Rattle.readings.specs.Lookup.{foundPairs}
+use Rattle.readings.specs.Records.{pairOf}
+use Rattle.readings.specs.Answer.{exactCount, greatest, greatestCount, best, treeWords, wordsOf, answerWords}
+use Rattle.readings.specs.Call.{Told, Accepted, tree, stoppedAfter, matched, written, callWith, scanCall, lookupCall}
+use Rattle.readings.specs.Demand.{Within, Demand3}
+use Rattle.readings.proofs.Packed.{lawful}
+use Rattle.readings.proofs.Runs.{run-done, stop-left}
+use Rattle.readings.proofs.Scan.{Enough, scan-enough}
+use Rattle.readings.proofs.Lookups.{lookup-enough}
+use Rattle.readings.proofs.Best.{reached}
+use Rattle.readings.proofs.Bounds.{small, tree-few, words-few}
+use Rattle.readings.proofs.Calls as Calls
+use Rattle.readings.proofs.Records.{top-pairs, found-pairs}
+use Rattle.readings.proofs.Theorems.{scan-demand, lookup-demand}
+use Rattle.pool.specs.declared.Pool.{Pool}
+use Rattle.pool.specs.Log.{logOf}
+use Rattle.pool.specs.Meaning.{gathered, meaning, meanings, entries, Stored}
+use Rattle.pool.proofs.Meanings.{meanings-more}
+use Rattle.trees.specs.Asked.{Begun}
+use Rattle.trees.proofs.Counts.{count-free}
+use Rattle.answer.specs.Measured.{treesIn, Bounded, measured}
+use Rattle.answer.specs.declared.Measure.{Measure}
+use Rattle.matcher.specs.declared.Answer.{Answer}
+use Rattle.matcher.specs.declared.Answer.the-variants.{Matched, NoMatch, TooLong}
+use Rattle.matcher.specs.declared.Checked.{Checked}
+use Rattle.matcher.specs.declared.Checked.the-variants.{Good, Bad}
+use Rattle.matcher.specs.declared.Order.{Order}
+use Rattle.matcher.specs.declared.Order.the-variants.{Scan, Lookup}
+use Rattle.matcher.specs.declared.walk.Walked.{Walked}
+use Rattle.matcher.specs.declared.walk.Walked.the-variants.{Done, Stopped}
+use Rattle.matcher.specs.declared.walk.Refusal.{Refusal}
+use Rattle.matcher.specs.declared.walk.Refusal.the-variants as Refusal
+use Rattle.matcher.specs.Met.{numberOf}
+use Rattle.matcher.specs.Told.{says, orderOf, rulesOf, CheckedAs, accepts, refuses, Listed, Tried, listed, stopped, TellAsked, stoppedBy}
+
+-- ---- the scene's line and sheet do not matter to the answer's words
+
+module _ (t line sheet : List ℕ) where
+  counts-free : (us : List Tree) → map (exactCount (sceneOf t line sheet)) us ≡ map (exactCount (sceneOf t [] [])) us
+  counts-free [] = refl
+  counts-free (u ∷ us) = λ i. count-free t line sheet u i ∷ counts-free us i
+
+  greatest-free : (us : List Tree) → greatestCount (sceneOf t line sheet) us ≡ greatestCount (sceneOf t [] []) us
+  unfolding greatestCount
+  greatest-free us = ap greatest (counts-free us)
+
+  kept-free : (g : ℕ) (us : List Tree) → keepIf (λ u. eqb (exactCount (sceneOf t line sheet) u) g) us ≡ keepIf (λ u. eqb (exactCount (sceneOf t [] []) u) g) us
+  unfolding keepIf
+  kept-free g [] = refl
+  kept-free g (u ∷ us) = λ i. select (eqb (count-free t line sheet u i) g) (u ∷ kept-free g us i) (kept-free g us i)
+
+  words-free : (us : List Tree) → answerWords (sceneOf t line sheet) us ≡ answerWords (sceneOf t [] []) us
+  unfolding best
+  words-free us =
+      ap (λ (g : ℕ). wordsOf g (keepIf (λ u. eqb (exactCount (sceneOf t line sheet) u) g) us)) (greatest-free us)
+      ∙ ap (wordsOf (greatestCount (sceneOf t [] []) us)) (kept-free (greatestCount (sceneOf t [] []) us) us)
+
+  matched-free : (v : ℕ) (us : List Tree) (b : List ℕ) → matched (sceneOf t line sheet) v us b ≡ matched (sceneOf t [] []) v us b
+  matched-free v [] b = refl
+  matched-free v (u ∷ us) b = ap (λ (ws : List ℕ). written v ws b) (words-free (u ∷ us))
+
+-- ---- the matches told
+
+best-some : (s : Scene) (t : Tree) (ts : List Tree) → length (best s (t ∷ ts)) ≡ 0 → ⊥
+unfolding best
+best-some s t ts e =
+    let (u, m, q) = reached s t ts in
+    none (best s (t ∷ ts)) e (kept-has (λ u. eqb (exactCount s u) (greatestCount s (t ∷ ts))) (t ∷ ts) (eq-eqb (exactCount s u) (greatestCount s (t ∷ ts)) q) m)
+  where
+    none : (us : List Tree) → length us ≡ 0 → {u : Tree} → List·Memᴰ u us → ⊥
+    none [] e m = List·Memᴰ·not-nil m
+    none (u ∷ us) e m = omega arith
+
+module _ (t : List ℕ) (ts : List Tree) (v : ℕ) (b : List ℕ) (found : Measure) (is : found ≡ measured t ts) where
+  abbrev s : Scene
+  s = sceneOf t [] []
+
+  count-of : found .matches ≡ length (best s ts)
+  unfolding measured
+  count-of = ap (λ (m : Measure). m .matches) is
+
+  pub words-of : found .words ≡ length (answerWords s ts)
+  unfolding measured
+  words-of = ap (λ (m : Measure). m .words) is
+
+  pub tell-none : found .matches ≡ 0 → says (NoMatch v) b ≡ matched s v ts b
+  tell-none e = go ts (sym count-of ∙ e)
+    where
+      go : (ts : List Tree) → length (best s ts) ≡ 0 → says (NoMatch v) b ≡ matched s v ts b
+      go [] e = refl
+      go (u ∷ us) e = absurd (best-some s u us e)
+
+  some-match : (found .matches ≡ 0 → ⊥) → matched s v ts b ≡ written v (answerWords s ts) b
+  unfolding best keepIf
+  some-match ne = go ts (λ e. ne (count-of ∙ e))
+    where
+      go : (ts : List Tree) → (length (best s ts) ≡ 0 → ⊥) → matched s v ts b ≡ written v (answerWords s ts) b
+      go [] ne = absurd (ne refl)
+      go (u ∷ us) ne = refl
+
+  module _ (ne : found .matches ≡ 0 → ⊥) where
+    pub tell-long : length b < found .words → says (TooLong v (found .words)) b ≡ matched s v ts b
+    tell-long h = ap (λ (n : ℕ). says (TooLong v n) b) words-of ∙ sym (some-match ne ∙ Calls.short s v b (answerWords s ts) (omega (arith, words-of)))
+
+    pub tell-matched : (b′ : List ℕ) → found .words ≤ length b → b′ ≡ answerWords s ts ++ drop (length (answerWords s ts)) b → says (Matched v (found .words)) b′ ≡ matched s v ts b
+    tell-matched b′ h e =
+        ap (λ (n : ℕ). says (Matched v n) b′) words-of ∙ ap (says (Matched v (length (answerWords s ts)))) e
+        ∙ sym (some-match ne ∙ Calls.fits s v b (answerWords s ts) (omega (arith, words-of)))
+
+-- ---- the whole call
+
+order-enough : (how : Order) (s : Scene) → Lawful s → Enough s (orderOf how s)
+order-enough Scan s law = scan-enough s law
+order-enough Lookup s law = lookup-enough s law
+
+pub refused-tells : {t line sheet : List ℕ} {budget : ℕ} {r : Checked} {a : Answer} → CheckedAs t line sheet budget r → r ≡ Bad a
+    → (how : Order) (b : List ℕ) → says a b ≡ callWith (orderOf how) t line sheet budget b
+refused-tells {t} {line} {sheet} {budget} c e = go (subst (CheckedAs t line sheet budget) e c)
+  where
+    go : {a : Answer} → CheckedAs t line sheet budget (Bad a) → (how : Order) (b : List ℕ) → says a b ≡ callWith (orderOf how) t line sheet budget b
+    go (refuses k) = k
+
+pub accepted-by : {t line sheet : List ℕ} {budget : ℕ} {r : Checked} → CheckedAs t line sheet budget r → r ≡ Good → Accepted t line sheet budget
+accepted-by {t} {line} {sheet} {budget} c e = go (subst (CheckedAs t line sheet budget) e c)
+  where
+    go : CheckedAs t line sheet budget Good → Accepted t line sheet budget
+    go (accepts a) = a
+
+pub listed-by : {o : Outcome (List Match)} {store : List ℕ} {r : Walked} {left : ℕ} {pool : Pool} → Tried o store r → r ≡ Done left pool → Listed o store left pool
+listed-by {o} {store} m e = go (subst (Tried o store) e m)
+  where
+    go : {left : ℕ} {pool : Pool} → Tried o store (Done left pool) → Listed o store left pool
+    go (listed x) = x
+
+pub stopped-by : {o : Outcome (List Match)} {store : List ℕ} {r : Walked} {why : Refusal} {left : ℕ} → Tried o store r → r ≡ Stopped why left → o ≡ stop (numberOf why) left
+stopped-by {o} {store} m e = go (subst (Tried o store) e m)
+  where
+    go : {why : Refusal} {left : ℕ} → Tried o store (Stopped why left) → o ≡ stop (numberOf why) left
+    go (stopped x) = x
+
+module _ {t line sheet : List ℕ} {budget : ℕ} (ok : Accepted t line sheet budget) (how : Order) (rules : List ℕ) (rules-are : rules ≡ rulesOf how t line) where
+  abbrev scene : Scene
+  scene = sceneOf t line sheet
+
+  order-is : map (pairOf t) rules ≡ orderOf how scene
+  unfolding sceneOf
+  order-is = ap (map (pairOf t)) rules-are ∙ go how
+    where
+      go : (h : Order) → map (pairOf t) (rulesOf h t line) ≡ orderOf h (sceneOf t line sheet)
+      go Scan = sym (top-pairs t line sheet (ok .table))
+      go Lookup = sym (found-pairs t line sheet (ok .table) (linePrefix line))
+
+  abbrev walked : Outcome (List Match)
+  walked = run (tries scene (map (pairOf t) rules)) budget 0
+
+  in-order : walked ≡ run (tries scene (orderOf how scene)) budget 0
+  in-order = ap (λ (xs : List (ℕ × ℕ)). run (tries scene xs) budget 0) order-is
+
+  says-stopped : (why : Refusal) (v : ℕ) (b : List ℕ) → says (stoppedBy why v) b ≡ stoppedAfter (numberOf why) v b
+  says-stopped Refusal.Spent v b = refl
+  says-stopped Refusal.Deep v b = refl
+  says-stopped Refusal.Full v b = refl
+
+  module _ (why : Refusal) {left : ℕ} (e : walked ≡ stop (numberOf why) left) where
+    pub call-within : left ≤ budget
+    call-within = stop-left (tries scene (map (pairOf t) rules)) budget 0 e
+
+    pub call-stopped : (a : Answer) (v : ℕ) (b : List ℕ) → v ≡ budget - left → a ≡ stoppedBy why v → says a b ≡ callWith (orderOf how) t line sheet budget b
+    call-stopped a v b n q =
+        ap (λ (x : Answer). says x b) q ∙ says-stopped why v b ∙ ap (λ (k : ℕ). stoppedAfter (numberOf why) k b) n
+        ∙ sym (Calls.stopped (orderOf how) t line sheet budget b ok (numberOf why) left (sym in-order ∙ e))
+
+  module _ {store : List ℕ} {left : ℕ} {pool : Pool} (l : Listed walked store left pool) where
+    law : Lawful scene
+    law = lawful t line sheet (ok .extents)
+
+    ended : run (tries scene (orderOf how scene)) budget 0 ≡ done left (pool .used) (l .matches)
+    ended = sym in-order ∙ l .done-with
+
+    pub call-left : left ≤ budget
+    call-left = let (_, i, _) = run-done (tries scene (orderOf how scene)) budget 0 ended in omega arith
+
+    trees-are : treesIn store (pool .used) ≡ map tree (l .matches)
+    unfolding meaning
+    trees-are = ap (λ (ms : List Match). map tree ms) (ap (λ log. gathered 0 (meanings log)) (l .made .grown) ∙ ap (gathered 0) (meanings-more [] (l .made .new)) ∙ l .made .found)
+
+    pub call-asked : {starts : List ℕ} → starts ≡ startsOf t → length store ≡ 4096 → TellAsked t starts store (pool .used)
+    call-asked begins sized = record {
+      stored = record { sized = sized; room = l .room; earlier = l .made .earlier };
+      begun = record { begins = begins; fits = ok .table };
+      bounded = record {
+        counts = λ u m. omega (arith, few u (subst (List·Memᴰ u) trees-are m) .0, count-free t line sheet u);
+        words = λ u m. few u (subst (List·Memᴰ u) trees-are m) .1;
+      };
+      words = subst (λ (ts : List Tree). length (answerWords (sceneOf t [] []) ts) ≤ 12589058) (sym trees-are)
+          (subst (λ (ws : List ℕ). length ws ≤ 12589058) (words-free t line sheet (map tree (l .matches)))
+          (words-few scene law (small t line sheet budget ok) (orderOf how scene) (order-enough how scene law) budget ended));
+    }
+      where
+        few : (u : Tree) → List·Memᴰ u (map tree (l .matches)) → (exactCount scene u ≤ 120) × (length (treeWords u) ≤ 12288)
+        few u m = tree-few scene law (small t line sheet budget ok) (orderOf how scene) (order-enough how scene law) budget ended u m
+
+    pub call-told : (v : ℕ) (b : List ℕ) (r : Told) → v ≡ budget - left → r ≡ matched (sceneOf t [] []) v (treesIn store (pool .used)) b
+        → r ≡ callWith (orderOf how) t line sheet budget b
+    call-told v b r n q =
+        q ∙ ap (λ (ts : List Tree). matched (sceneOf t [] []) v ts b) trees-are ∙ sym (matched-free t line sheet v (map tree (l .matches)) b)
+        ∙ ap (λ (k : ℕ). matched scene k (map tree (l .matches)) b) n
+        ∙ sym (Calls.walked-through (orderOf how) t line sheet budget b ok left (pool .used) (l .matches) ended)
+
+-- ---- demand 3, in the contracts
+
+module _ (t line sheet : List ℕ) (budget : ℕ) (b : List ℕ) (r : Told) where
+  pub scan-reads : r ≡ scanCall t line sheet budget b → Accepted t line sheet budget → Within t line sheet budget → Demand3 (sceneOf t line sheet) b r
+  scan-reads e ok w = subst (Demand3 (sceneOf t line sheet) b) (sym e) (scan-demand t line sheet budget b ok w)
+
+  module _ (e : r ≡ lookupCall t line sheet budget b) (ok : Accepted t line sheet budget) (w : Within t line sheet budget) where
+    pub lookup-reads : Demand3 (sceneOf t line sheet) b r
+    lookup-reads = subst (Demand3 (sceneOf t line sheet) b) (sym e) (lookup-demand t line sheet budget b ok w .0)
+
+    pub lookup-visits : r .visits ≤ scanCall t line sheet budget b .visits
+    lookup-visits = subst (λ (x : Told). x .visits ≤ scanCall t line sheet budget b .visits) (sym e) (lookup-demand t line sheet budget b ok w .1)

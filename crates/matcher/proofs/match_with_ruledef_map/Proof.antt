@@ -1,0 +1,22 @@
+use Rattle.matcher.proofs.Telling.{lookup-reads, lookup-visits}
+use borrow.Author.Needs.{needs}
+use Rattle.matcher.proofs.match_with_ruledef_map.Statement.{statement}
+use Rattle.matcher.proofs.match_with_ruledef_map.Tie as tie
+use Rattle.matcher.proofs.match_with_ruledef_map.Reads as reads
+use Rattle.matcher.proofs.match_with_ruledef_map.Lts as lts
+use Rattle.matcher.proofs.call.Reads as call-reads
+
+-- src/lib.rt:229:5
+call-requires : tie.Need-call-requires
+call-requires c κs = search needs
+
+-- src/lib.rt:224:1
+same-length : tie.Need-same-length
+same-length c = search needs
+
+-- src/lib.rt:224:1
+returns : tie.Need-returns
+returns c = (c .before .before .call .ensures, (lookup-reads _ _ _ _ _ _ (c .before .before .call .ensures), lookup-visits _ _ _ _ _ _ (c .before .before .call .ensures)))
+
+pub match-with-ruledef-map-spec : {M : Type 1} → statement M
+match-with-ruledef-map-spec = tie.close (tie.spec call-requires same-length returns)

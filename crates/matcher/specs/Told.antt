@@ -1,0 +1,91 @@
+-- What an answer says: document 01's number and fields for each case. And what the parts of a call give.
+use mathlib.Core.Path.{_≡_}
+use mathlib.Core.List.{List, []}
+use Prim.Native.Nat.{ℕ, _≤_, _<_}
+use lib.ListN.{length, getD}
+use Rattle.defs.specs.Table.{recordsIn}
+use Rattle.defs.specs.Ruledef.{startsOf}
+use Rattle.defs.specs.RuledefMap.{linePrefix, topRules, foundRules}
+use Rattle.readings.specs.Scene.{Scene, sceneOf}
+use Rattle.readings.specs.Answer.{answerWords}
+use Rattle.readings.specs.Plan.{Outcome, done, stop}
+use Rattle.readings.specs.Walk.{Match, topPairs}
+use Rattle.readings.specs.Lookup.{foundPairs}
+use Rattle.readings.specs.Call.{Told, Accepted, callWith}
+use Rattle.pool.specs.declared.Pool.{Pool}
+use Rattle.pool.specs.Log.{logOf}
+use Rattle.pool.specs.Meaning.{Stored}
+use Rattle.trees.specs.Asked.{Begun}
+use Rattle.answer.specs.Measured.{treesIn, Bounded}
+use Rattle.matcher.specs.declared.Answer.{Answer}
+use Rattle.matcher.specs.declared.Answer.the-variants.{Matched, NoMatch, BadTable, BadLine, BadSheet, BadBudget, Spent, TooDeep, PoolFull, TooLong}
+use Rattle.matcher.specs.declared.Checked.{Checked}
+use Rattle.matcher.specs.declared.Checked.the-variants.{Good, Bad}
+use Rattle.matcher.specs.declared.Order.{Order}
+use Rattle.matcher.specs.declared.Order.the-variants.{Scan, Lookup}
+use Rattle.matcher.specs.declared.walk.Refusal.{Refusal}
+use Rattle.matcher.specs.declared.walk.Refusal.the-variants as Refusal
+use Rattle.matcher.specs.declared.walk.Walked.{Walked}
+use Rattle.matcher.specs.declared.walk.Walked.the-variants.{Done, Stopped}
+use Rattle.matcher.specs.Met.{Made, numberOf}
+
+abbrev told : ℕ → ℕ → ℕ → ℕ → List ℕ → Told
+told n v w p b = record { number = n; visits = v; words = w; place = p; buffer = b }
+
+-- each answer's number, visits, words and place, with the buffer; unstated fields are 0
+abbrev pub says : Answer → List ℕ → Told
+says (Matched v w) b = told 0 v w 0 b
+says (NoMatch v) b = told 1 v 0 0 b
+says BadTable b = told 2 0 0 0 b
+says (BadLine p) b = told 3 0 0 p b
+says BadSheet b = told 4 0 0 0 b
+says BadBudget b = told 5 0 0 0 b
+says (Spent v) b = told 6 v 0 0 b
+says (TooDeep v) b = told 7 v 0 0 b
+says (PoolFull v) b = told 8 v 0 0 b
+says (TooLong v w) b = told 9 v w 0 b
+
+-- the rules that a call tries, as rulesets and numbers, and as records
+abbrev pub orderOf : Order → Scene → List (ℕ × ℕ)
+orderOf Scan s = topPairs s
+orderOf Lookup s = foundPairs s (linePrefix (s .line))
+
+abbrev pub rulesOf : Order → List ℕ → List ℕ → List ℕ
+rulesOf Scan t line = topRules t
+rulesOf Lookup t line = foundRules t (linePrefix line)
+
+-- the checks accept, or refuse with what the whole call tells
+pub data CheckedAs (t line sheet : List ℕ) (budget : ℕ) : Checked → Type 0 where
+  accepts : Accepted t line sheet budget → CheckedAs t line sheet budget Good
+  refuses : {a : Answer} → ((how : Order) (b : List ℕ) → says a b ≡ callWith (orderOf how) t line sheet budget b) → CheckedAs t line sheet budget (Bad a)
+
+-- what trying rules asks: accepted input, an empty pool's store, records of the table
+pub record TryAsked (t line sheet starts store rules : List ℕ) (count visits : ℕ) : Type 0 where
+  pub accepted : Accepted t line sheet visits
+  pub begins : starts ≡ startsOf t
+  pub sized : length store ≡ 4096
+  pub fits : count ≤ length rules
+  pub below : (i : ℕ) → i < count → getD rules i 0 < recordsIn t
+
+-- what trying rules leaves: the matches in the log, or which of 6, 7, 8
+pub record Listed (o : Outcome (List Match)) (store : List ℕ) (left : ℕ) (pool : Pool) : Type 0 where
+  pub matches : List Match
+  pub done-with : o ≡ done left (pool .used) matches
+  pub made : Made 0 [] (logOf store (pool .used)) matches
+  pub room : pool .used ≤ 4096
+
+pub data Tried (o : Outcome (List Match)) (store : List ℕ) : Walked → Type 0 where
+  listed : {left : ℕ} {pool : Pool} → Listed o store left pool → Tried o store (Done left pool)
+  stopped : {why : Refusal} {left : ℕ} → o ≡ stop (numberOf why) left → Tried o store (Stopped why left)
+
+abbrev pub stoppedBy : Refusal → ℕ → Answer
+stoppedBy Refusal.Spent v = Spent v
+stoppedBy Refusal.Deep v = TooDeep v
+stoppedBy Refusal.Full v = PoolFull v
+
+-- what telling the matches asks: they are in the store, and their counts and words are few
+pub record TellAsked (t starts store : List ℕ) (used : ℕ) : Type 0 where
+  pub stored : Stored store used
+  pub begun : Begun t starts
+  pub bounded : Bounded t store used
+  pub words : length (answerWords (sceneOf t [] []) (treesIn store used)) ≤ 12589058
