@@ -1,6 +1,6 @@
 -- The checks of a call: what each finds is what the whole call's definition tests, in its order.
 use mathlib.Core.Path.{_≡_, refl, sym, ap, _∙_}
-use mathlib.Core.Bool.{Bool, true, false, not, _&&_}
+use mathlib.Core.Bool.{Bool, true, false}
 use mathlib.Core.Option.{Option, none, some, Option·none-ne-some, Option·some-inj}
 use mathlib.Core.List.{List, [], _∷_}
 use Prim.Native.Nat.{ℕ, suc, _+_, _-_, _≤_, _<_}
@@ -15,11 +15,9 @@ use Rattle.syntax.specs.declared.line.LineCheck.{LineCheck}
 use Rattle.syntax.specs.declared.line.LineCheck.the-variants as LineCheck
 use Rattle.defs.specs.Table.{tableFits}
 use Rattle.extents.specs.Sheet.{sheetFits}
-use Rattle.readings.specs.Call.{Accepted, budgetFits}
+use Rattle.readings.specs.Call.{budgetFits}
 use Rattle.readings.proofs.Calls.{bad-table, bad-line, bad-sheet, bad-budget}
-use Rattle.matcher.specs.declared.Answer.{Answer}
 use Rattle.matcher.specs.declared.Answer.the-variants.{BadTable, BadLine, BadSheet, BadBudget}
-use Rattle.matcher.specs.declared.Checked.{Checked}
 use Rattle.matcher.specs.declared.Checked.the-variants.{Good, Bad}
 use Rattle.matcher.specs.Told.{orderOf, CheckedAs, accepts, refuses}
 

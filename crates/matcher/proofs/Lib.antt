@@ -1,15 +1,4 @@
-pub mod Outcomes
-pub mod Logs
-pub mod Finish
-pub mod Inners
-pub mod Turns
-pub mod Loops
-pub mod Turned
-pub mod Places
-pub mod Held
-pub mod Exprs
-pub mod Rules
-pub mod Nests
 pub mod Checks
 pub mod Tries
 pub mod Telling
+pub mod Tight

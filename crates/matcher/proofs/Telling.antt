@@ -1,23 +1,21 @@
 -- The whole call, told: refused by a check, stopped by the walk, or the matches that the walk left, measured and written.
 -- The matches of depth 0 in the log are those that the plan lists, so the call's definition applies to them.
 use mathlib.Core.Path.{_≡_, refl, sym, ap, subst, _∙_}
-use mathlib.Core.Bool.{Bool, true, false}
 use mathlib.Core.List.{List, [], _∷_, _++_, map, List·Memᴰ, List·Memᴰ·not-nil}
-use Prim.Native.Nat.{ℕ, _+_, _-_, _≤_, _<_, max}
+use Prim.Native.Nat.{ℕ, _+_, _-_, _≤_, _<_}
 use native.Mathlib.Omega.{arith}
 use lib.Dec.{eqb}
-use lib.ListN.{length, drop, take}
+use lib.ListN.{length, drop}
 use borrow.Author.Tests.{eq-eqb}
 use Rattle.plain.specs.Choice.{select}
 use Rattle.plain.specs.Lists.{keepIf}
 use Rattle.plain.proofs.Members.{kept-has}
-use Rattle.defs.specs.RuledefMap.{linePrefix, topRules, foundRules}
+use Rattle.defs.specs.RuledefMap.{linePrefix}
 use Rattle.defs.specs.Ruledef.{startsOf}
 use Rattle.readings.specs.Tree.{Tree}
 use Rattle.readings.specs.Scene.{Scene, Lawful, sceneOf}
 use Rattle.readings.specs.Plan.{Outcome, done, stop, run}
-use Rattle.readings.specs.Walk.{Match, tries, topPairs}
-use Rattle.readings.specs.Lookup.{foundPairs}
+use Rattle.readings.specs.Walk.{Match, tries}
 use Rattle.readings.specs.Records.{pairOf}
 use Rattle.readings.specs.Answer.{exactCount, greatest, greatestCount, best, treeWords, wordsOf, answerWords}
 use Rattle.readings.specs.Call.{Told, Accepted, tree, stoppedAfter, matched, written, callWith, scanCall, lookupCall}
@@ -32,12 +30,10 @@ use Rattle.readings.proofs.Calls as Calls
 use Rattle.readings.proofs.Records.{top-pairs, found-pairs}
 use Rattle.readings.proofs.Theorems.{scan-demand, lookup-demand}
 use Rattle.pool.specs.declared.Pool.{Pool}
-use Rattle.pool.specs.Log.{logOf}
-use Rattle.pool.specs.Meaning.{gathered, meaning, meanings, entries, Stored}
+use Rattle.pool.specs.Meaning.{gathered, meaning, meanings}
 use Rattle.pool.proofs.Meanings.{meanings-more}
-use Rattle.trees.specs.Asked.{Begun}
 use Rattle.trees.proofs.Counts.{count-free}
-use Rattle.answer.specs.Measured.{treesIn, Bounded, measured}
+use Rattle.answer.specs.Measured.{treesIn, measured}
 use Rattle.answer.specs.declared.Measure.{Measure}
 use Rattle.matcher.specs.declared.Answer.{Answer}
 use Rattle.matcher.specs.declared.Answer.the-variants.{Matched, NoMatch, TooLong}
@@ -45,11 +41,11 @@ use Rattle.matcher.specs.declared.Checked.{Checked}
 use Rattle.matcher.specs.declared.Checked.the-variants.{Good, Bad}
 use Rattle.matcher.specs.declared.Order.{Order}
 use Rattle.matcher.specs.declared.Order.the-variants.{Scan, Lookup}
-use Rattle.matcher.specs.declared.walk.Walked.{Walked}
-use Rattle.matcher.specs.declared.walk.Walked.the-variants.{Done, Stopped}
-use Rattle.matcher.specs.declared.walk.Refusal.{Refusal}
-use Rattle.matcher.specs.declared.walk.Refusal.the-variants as Refusal
-use Rattle.matcher.specs.Met.{numberOf}
+use Rattle.walk.specs.declared.Walked.{Walked}
+use Rattle.walk.specs.declared.Walked.the-variants.{Done, Stopped}
+use Rattle.walk.specs.declared.Refusal.{Refusal}
+use Rattle.walk.specs.declared.Refusal.the-variants as Refusal
+use Rattle.walk.specs.Met.{numberOf}
 use Rattle.matcher.specs.Told.{says, orderOf, rulesOf, CheckedAs, accepts, refuses, Listed, Tried, listed, stopped, TellAsked, stoppedBy}
 
 -- ---- the scene's line and sheet do not matter to the answer's words

@@ -2,7 +2,7 @@
 -- is empty at the start, so the log is what the walks left, and its matches of depth 0 are those that the plan lists.
 use mathlib.Core.Path.{_≡_, refl, sym, ap, subst, _∙_}
 use mathlib.Core.Bool.{true}
-use mathlib.Core.List.{List, [], _∷_, _++_, map, List·Memᴰ}
+use mathlib.Core.List.{List, [], _∷_, _++_, map, map-id, List·Memᴰ}
 use Prim.Native.Nat.{ℕ, _+_, _-_, _≤_, _<_}
 use native.Mathlib.Omega.{arith}
 use lib.Dec.{eqb}
@@ -10,7 +10,7 @@ use lib.ListN.{length, getD, take, drop, length-take}
 use lib.Seq.{take-at, getD-take, length-take-le}
 use Rattle.plain.proofs.Lists.{listed-length, listed-at}
 use Rattle.syntax.specs.declared.walker.Walker.{Walker}
-use Rattle.defs.specs.Table.{tableFits, recordsIn, rulesetAt, partsBetween, ruleSpan, ruleParts}
+use Rattle.defs.specs.Table.{tableFits, recordsIn, rulesetAt, partsBetween, ruleSpan}
 use Rattle.defs.specs.Ruledef.{startsOf, beginsAt}
 use Rattle.defs.specs.RuledefMap.{linePrefix, heldPrefix, prefixBytes, topRules, foundRules, putRules}
 use Rattle.defs.specs.declared.ruledef.Part.{Part}
@@ -21,10 +21,9 @@ use Rattle.defs.proofs.Words.{parts-whole}
 use Rattle.syntax.proofs.Lines.{good-is}
 use Rattle.readings.specs.Scene.{Scene, sceneOf}
 use Rattle.readings.specs.Tree.{node}
-use Rattle.readings.specs.Plan.{Plan, give, done, run, each, mapped, _then_}
+use Rattle.readings.specs.Plan.{Plan, give, done, run, each, _then_}
 use Rattle.readings.specs.Walk.{Found, Match, named, walk, under, depths, trial, tries}
 use Rattle.readings.specs.Records.{pairOf}
-use Rattle.readings.specs.Call.{Accepted}
 use Rattle.readings.proofs.Records.{pair-parts, pair-within, few-records, span-within, top-many, found-many, top-below, found-below}
 use Rattle.pool.specs.declared.Pool.{Pool}
 use Rattle.pool.specs.declared.Record.{Record}
@@ -34,17 +33,17 @@ use Rattle.pool.proofs.Words.{log-none}
 use Rattle.pool.proofs.Meanings.{earlier-none}
 use Rattle.matcher.specs.declared.Order.{Order}
 use Rattle.matcher.specs.declared.Order.the-variants.{Scan, Lookup}
-use Rattle.matcher.specs.declared.walk.Place.{Place}
-use Rattle.matcher.specs.declared.walk.Walked.{Walked}
-use Rattle.matcher.specs.declared.walk.Walked.the-variants.{Done, Stopped}
-use Rattle.matcher.specs.declared.walk.Refusal.{Refusal}
-use Rattle.matcher.specs.Met.{finishes, partsPlan, rulePlan, ran, Ready, Made, wholeAt, numberOf, Left}
-use Rattle.matcher.specs.Told.{rulesOf, TryAsked, Listed, Tried, listed, stopped}
-use Rattle.matcher.proofs.Outcomes.{mapped-done, mapped-stop}
-use Rattle.matcher.proofs.Held.{held-is, member-at}
-use Rattle.matcher.proofs.Loops.{Did, did-none, index-end, index-more, index-stop}
-use Rattle.matcher.proofs.Turned.{reached, refused}
-use Rattle.matcher.proofs.Rules.{map-itself}
+use Rattle.walk.specs.declared.Place.{Place}
+use Rattle.walk.specs.declared.Walked.{Walked}
+use Rattle.walk.specs.declared.Walked.the-variants.{Done, Stopped}
+use Rattle.walk.specs.declared.Refusal.{Refusal}
+use Rattle.walk.specs.Met.{finishes, partsPlan, rulePlan, ran, Ready, Made, wholeAt, Left}
+use Rattle.matcher.specs.Told.{rulesOf, TryAsked, Tried, listed, stopped}
+use Rattle.walk.proofs.Outcomes.{mapped-done, mapped-stop}
+use Rattle.walk.proofs.Held.{held-is, member-at}
+use Rattle.walk.proofs.Loops.{Did, did-none, index-end, index-more, index-stop}
+use Rattle.walk.proofs.Turned.{reached, refused}
+use Rattle.walk.proofs.Rules.{itself}
 
 -- ---- the records listed
 
@@ -85,9 +84,6 @@ module _ (t line b : List ℕ) (n : ℕ) (how : Order) (ok : tableFits t ≡ tru
       below Lookup m = found-below t line [] ok (linePrefix line) m
 
 -- ---- each tried
-
-abbrev itself : Match → Match
-itself x = x
 
 -- one record's trial
 abbrev pub trialOf : List ℕ → List ℕ → List ℕ → ℕ → Plan (List Match)
@@ -205,7 +201,7 @@ module _ {t line sheet starts store₀ rules : List ℕ} {count visits : ℕ} (a
               index-more (trialOf t line sheet) itself 0 (take count rules) i did (omega (arith, long)) rule 0 next-rule l (q .used) store″ found
               (mapped-done (named (pairOf t rule .0) (pairOf t rule .1)) walked v u (sym ran-is ∙ x .done-with))
               (subst (λ (n : ℕ). Made 0 (logOf store n) (logOf store″ (q .used)) (map itself found)) used
-              (subst (Made 0 (logOf store (has .used)) (logOf store″ (q .used))) (all-named (x .founds) ∙ sym (map-itself found)) (x .made)))
+              (subst (Made 0 (logOf store (has .used)) (logOf store″ (q .used))) (all-named (x .founds) ∙ sym (map-id found)) (x .made)))
               z
 
           pub tries-stop : {why : Refusal} {l : ℕ} → r ≡ Stopped why l → u₀ ≡ 0 → Tried (run (tries s (map (pairOf t) (take count rules))) visits 0) store″ (Stopped why l)
@@ -226,6 +222,6 @@ module _ {t line sheet starts store₀ rules : List ℕ} {count visits : ℕ} (a
               ∙ all .done-with ∙ ap (λ (n : ℕ). done v n (all .gave)) (sym e);
           made = subst (λ (n : ℕ). Made 0 [] (logOf store n) (all .gave)) (sym e)
               (subst (λ (l : List Record). Made 0 l (logOf store u) (all .gave)) (ap (logOf store₀) z ∙ log-none store₀)
-              (subst (Made 0 (logOf store₀ u₀) (logOf store u)) (map-itself (all .gave)) (all .made)));
+              (subst (Made 0 (logOf store₀ u₀) (logOf store u)) (map-id (all .gave)) (all .made)));
           room = omega (arith, e, all .stored .room);
         })

@@ -23,11 +23,11 @@ use Rattle.matcher.specs.declared.Checked.{Checked}
 use Rattle.matcher.specs.declared.Checked.the-variants.{Good, Bad}
 use Rattle.matcher.specs.declared.Order.{Order}
 use Rattle.matcher.specs.declared.Order.the-variants.{Scan, Lookup}
-use Rattle.matcher.specs.declared.walk.Refusal.{Refusal}
-use Rattle.matcher.specs.declared.walk.Refusal.the-variants as Refusal
-use Rattle.matcher.specs.declared.walk.Walked.{Walked}
-use Rattle.matcher.specs.declared.walk.Walked.the-variants.{Done, Stopped}
-use Rattle.matcher.specs.Met.{Made, numberOf}
+use Rattle.walk.specs.declared.Refusal.{Refusal}
+use Rattle.walk.specs.declared.Refusal.the-variants as Refusal
+use Rattle.walk.specs.declared.Walked.{Walked}
+use Rattle.walk.specs.declared.Walked.the-variants.{Done, Stopped}
+use Rattle.walk.specs.Met.{Made, numberOf}
 
 abbrev told : ℕ → ℕ → ℕ → ℕ → List ℕ → Told
 told n v w p b = record { number = n; visits = v; words = w; place = p; buffer = b }

@@ -2,7 +2,6 @@
 // `src/asm/matcher/mod.rs`, `match_instr` and `match_with_ruledef_map`. Any slices and any budget are taken, and bad ones
 // refused: table, line, sheet, budget (2 to 5); then the walk's budget, depth and pool (6, 7, 8); no match (1); an answer
 // longer than the buffer (9). A refusal leaves the buffer unchanged.
-
 use defs::ruledef;
 use defs::ruledef_map;
 use pool::Pool;
@@ -27,8 +26,6 @@ ghost use Rattle.readings.specs.Demand.{Within, Demand3};
 ghost use Rattle.pool.specs.Meaning.{Stored};
 ghost use Rattle.answer.specs.Measured.{treesIn};
 ghost use Rattle.matcher.specs.Told.{says, CheckedAs, orderOf, rulesOf, TryAsked, Tried, TellAsked, stoppedBy};
-
-mod walk;
 
 const MOST_VISITS: u32 = 1_000_000;
 

@@ -1,3 +1,4 @@
 pub mod Words
 pub mod Meanings
 pub mod Gathers
+pub mod Tight

@@ -11,17 +11,15 @@ use lib.Dec.{eqb}
 use lib.ListN.{length, getD, length-append, List·getD-append}
 use lib.Seq.{getD-at}
 use Rattle.plain.specs.Choice.{select}
-use Rattle.readings.specs.Tree.{Tree}
 use Rattle.readings.specs.Walk.{Match}
 use Rattle.pool.specs.declared.ArgumentKind.{ArgumentKind}
 use Rattle.pool.specs.declared.ArgumentKind.the-variants.{Expr, Nested}
 use Rattle.pool.specs.declared.Argument.{Argument}
 use Rattle.pool.specs.declared.Record.{Record}
 use Rattle.pool.specs.declared.Record.the-variants.{Kept, Completed}
-use Rattle.pool.specs.declared.Last.{Last}
 use Rattle.pool.specs.declared.Last.the-variants.{First, After}
 use Rattle.pool.specs.Log.{decode, logOf, nothing, ArgumentDigits, MatchFits, Digits}
-use Rattle.pool.specs.Meaning.{Chain, Entry, argued, completed, chainAt, treeAt, linked, entryOf, meaning, meanings, gatheredOf, gathered, InnerEarlier, Links, Earlier, Stored, entries, Heads, Lasts, chainIn, treeIn}
+use Rattle.pool.specs.Meaning.{Chain, Entry, argued, completed, chainAt, treeAt, linked, entryOf, meaning, meanings, gatheredOf, gathered, InnerEarlier, Links, Earlier, Stored, entries, headOf, HeadAt, lastOf, lastIn, LastAt, chainIn, treeIn}
 use Rattle.pool.proofs.Words.{log-length, log-at}
 
 -- ---- one list of records after another
@@ -129,39 +127,48 @@ module _ (store : List ℕ) (used : ℕ) (stored : Stored store used) (i : ℕ) 
   pub links-read : Links i x
   links-read = subst (Links i) known (stored .earlier .links i below)
 
-  pub head-kept : {a : Argument} {p : ℕ} → x ≡ Kept a p → Heads es i (record { set = 0; rule = 0; args = 0 })
+  pub head-kept : {a : Argument} {p : ℕ} → x ≡ Kept a p → HeadAt store used i (record { set = 0; rule = 0; args = 0 })
   unfolding treeAt chainAt
   head-kept y = record {
-    means = ap treeIn (entry-read ∙ ap (entryOf es) y);
-    earlier = omega arith;
-    sets = omega arith;
-    rules = omega arith;
+    is = ap headOf (sym y ∙ is);
+    heads = record {
+      means = ap treeIn (entry-read ∙ ap (entryOf es) y);
+      earlier = omega arith;
+      sets = omega arith;
+      rules = omega arith;
+    };
   }
 
-  pub head-completed : {d r k a e : ℕ} → x ≡ Completed d r k a e → Heads es i (record { set = r; rule = k; args = a })
+  pub head-completed : {d r k a e : ℕ} → x ≡ Completed d r k a e → HeadAt store used i (record { set = r; rule = k; args = a })
   unfolding treeAt
   head-completed {d} {r} {k} {a} {e} y =
       let f : MatchFits d r k a e = subst Digits y digits in
       record {
-        means = ap treeIn (entry-read ∙ ap (entryOf es) y);
-        earlier = subst (Links i) y links-read;
-        sets = f .sets;
-        rules = f .rules;
+        is = ap headOf (sym y ∙ is);
+        heads = record {
+          means = ap treeIn (entry-read ∙ ap (entryOf es) y);
+          earlier = subst (Links i) y links-read;
+          sets = f .sets;
+          rules = f .rules;
+        };
       }
 
   module _ (n : ℕ) (next : n ≡ suc i) where
-    pub last-kept : {a : Argument} {p : ℕ} → x ≡ Kept a p → Lasts es n (After a p)
-    unfolding chainAt
+    pub last-kept : {a : Argument} {p : ℕ} → x ≡ Kept a p → LastAt store used n (After a p)
+    unfolding chainAt lastIn
     last-kept {a} {p} y =
         let f : ArgumentDigits a p = subst Digits y digits in
         let (l, k) = subst (Links i) y links-read in
         record {
-          means = ap (chainAt es) next ∙ ap chainIn (entry-read ∙ ap (entryOf es) y);
-          before = record {
-            earlier = omega (arith, next);
-            inner = inner-later (a .kind) k;
-            start = f .start;
-            end = f .end;
+          is = ap lastOf (sym y ∙ is) ∙ sym (ap (lastIn store) next);
+          lasts = record {
+            means = ap (chainAt es) next ∙ ap chainIn (entry-read ∙ ap (entryOf es) y);
+            before = record {
+              earlier = omega (arith, next);
+              inner = inner-later (a .kind) k;
+              start = f .start;
+              end = f .end;
+            };
           };
         }
       where
@@ -169,10 +176,16 @@ module _ (store : List ℕ) (used : ℕ) (stored : Stored store used) (i : ℕ) 
         inner-later Expr l = tt
         inner-later (Nested m) l = omega (arith, next)
 
-    pub last-completed : {d r k a e : ℕ} → x ≡ Completed d r k a e → Lasts es n First
-    unfolding chainAt
-    last-completed y = record { means = ap (chainAt es) next ∙ ap chainIn (entry-read ∙ ap (entryOf es) y); before = tt }
+    pub last-completed : {d r k a e : ℕ} → x ≡ Completed d r k a e → LastAt store used n First
+    unfolding chainAt lastIn
+    last-completed y = record {
+      is = ap lastOf (sym y ∙ is) ∙ sym (ap (lastIn store) next);
+      lasts = record { means = ap (chainAt es) next ∙ ap chainIn (entry-read ∙ ap (entryOf es) y); before = tt };
+    }
 
-pub last-none : (es : List Entry) (n : ℕ) → n ≡ 0 → Lasts es n First
-unfolding chainAt
-last-none es n z = record { means = ap (chainAt es) z; before = tt }
+pub last-none : (store : List ℕ) (used n : ℕ) → n ≡ 0 → LastAt store used n First
+unfolding chainAt lastIn
+last-none store used n z = record {
+  is = sym (ap (lastIn store) z);
+  lasts = record { means = ap (chainAt (entries store used)) z; before = tt };
+}

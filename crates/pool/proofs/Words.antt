@@ -1,7 +1,7 @@
 -- A record written is the record read: each digit of a word comes out by one division by a numeral.
 use mathlib.Core.Path.{_≡_, refl, sym, ap, _∙_}
 use mathlib.Core.Bool.{Bool, true, false}
-use mathlib.Core.List.{List, [], _∷_, _++_, map}
+use mathlib.Core.List.{List, [], _∷_, _++_, map, map-append}
 use Prim.Native.Nat.{ℕ, zero, suc, _+_, _-_, _*_, _/_, _%_, _≤_, _<_}
 use native.Mathlib.Omega.{arith}
 use native.Mathlib.Numerals.{add-one}
@@ -16,7 +16,8 @@ use Rattle.pool.specs.declared.Argument.{Argument}
 use Rattle.pool.specs.declared.Record.{Record}
 use Rattle.pool.specs.declared.Record.the-variants.{Kept, Completed}
 use Rattle.pool.specs.declared.Pool.{Pool}
-use Rattle.pool.specs.Log.{codeOf, kindOf, argumentOf, matchOf, decode, logOf, ArgumentFits, MatchFits, Added, Digits, nothing}
+use Rattle.pool.specs.declared.Room.the-variants.{Taken, Full}
+use Rattle.pool.specs.Log.{codeOf, kindOf, argumentOf, matchOf, decode, logOf, ArgumentFits, MatchFits, Fits, wordOf, taken, TakenBy, Digits, nothing}
 
 -- ---- kinds
 
@@ -100,10 +101,6 @@ digits w = go (eqb (w % 2) 0)
 
 -- ---- the log
 
-map-append : {A B : Type 0} (f : A → B) (xs ys : List A) → map f (xs ++ ys) ≡ map f xs ++ map f ys
-map-append f [] ys = refl
-map-append f (x ∷ xs) ys = ap (λ l. f x ∷ l) (map-append f xs ys)
-
 pub log-length : (store : List ℕ) (used : ℕ) → used ≤ length store → length (logOf store used) ≡ used
 unfolding logOf
 log-length store used h = simp (logOf, length-map, length-take) (omega arith)
@@ -126,23 +123,26 @@ pub log-none : (store : List ℕ) → logOf store 0 ≡ []
 unfolding logOf
 log-none store = refl
 
-module _ (store : List ℕ) (used : ℕ) (sized : length store ≡ 4096) (few : used ≤ 4096) (more : used ≡ 4096 → ⊥) where
-  room : used < 4096
-  room = omega (arith, more)
+-- ---- a record taken
 
-  pub kept : (a : Argument) (prev k : ℕ) → k ≡ codeOf (a .kind) → ArgumentFits a prev
-      → Added used store (set store used (2 * (prev + 8192 * (a .start + 128 * (a .end + 128 * k))))) (Kept a prev) (record { used = used + 1 })
-  kept a prev k e f = record {
-    room = room;
-    counted = refl;
-    grown = log-more store used _ (omega (arith, room)) ∙ ap (λ (x : Record). logOf store used ++ (x ∷ [])) (decode-argument a prev k e f);
-  }
+-- what fits a word is what it was
+decoded : (x : Record) → Fits x → decode (wordOf x) ≡ x
+decoded (Kept a p) f = decode-argument a p (codeOf (a .kind)) refl f
+decoded (Completed d r k a e) f = decode-match d r k a e f
 
-  pub completed : (depth group rule args end : ℕ) → MatchFits depth group rule args end
-      → Added used store (set store used (1 + 2 * (depth + 32 * (group + 32 * (rule + 512 * (args + 8192 * end)))))) (Completed depth group rule args end)
-      (record { used = used + 1 })
-  completed depth group rule args end f = record {
-    room = room;
-    counted = refl;
-    grown = log-more store used _ (omega (arith, room)) ∙ ap (λ (x : Record). logOf store used ++ (x ∷ [])) (decode-match depth group rule args end f);
+module _ (store : List ℕ) (used : ℕ) (x : Record) where
+  pub taken-full : used ≡ 4096 → TakenBy used store store x Full
+  unfolding taken
+  taken-full e = record { is = rw (taken, eq-eqb used 4096 e); log = e }
+
+  pub taken-next : length store ≡ 4096 → used ≤ 4096 → (used ≡ 4096 → ⊥) → Fits x → (w : ℕ) → w ≡ wordOf x → (p : Pool) → p ≡ record { used = used + 1 }
+      → TakenBy used store (set store used w) x (Taken p)
+  unfolding taken
+  taken-next sized few more f w e p next = record {
+    is = rw (taken, ne-eqb used 4096 more, e, next);
+    log = record {
+      room = omega (arith, more);
+      counted = ap (λ (q : Pool). q .used) next;
+      grown = log-more store used w (omega (arith, more)) ∙ ap (λ (y : Record). logOf store used ++ (y ∷ [])) (ap decode e ∙ decoded x f);
+    };
   }

@@ -1,10 +1,9 @@
 -- The pool's log: what the first words of the lent store say, one record a word.
 use mathlib.Core.Path.{_≡_}
-use mathlib.Core.Bool.{Bool, true, false}
 use mathlib.Core.List.{List, [], _∷_, _++_, map}
-use Prim.Native.Nat.{ℕ, zero, suc, _+_, _/_, _%_, _≤_, _<_}
+use Prim.Native.Nat.{ℕ, zero, suc, _+_, _*_, _/_, _%_, _<_}
 use lib.Dec.{eqb}
-use lib.ListN.{length, take, getD}
+use lib.ListN.{take, set}
 use Rattle.plain.specs.Choice.{select}
 use Rattle.pool.specs.declared.ArgumentKind.{ArgumentKind}
 use Rattle.pool.specs.declared.ArgumentKind.the-variants.{Expr, Nested}
@@ -60,6 +59,19 @@ pub record MatchFits (depth set rule args end : ℕ) : Type 0 where
   pub last : args < 8192
   pub place : end < 128
 
+abbrev pub Fits : Record → Type 0
+Fits (Kept a p) = ArgumentFits a p
+Fits (Completed d r k a e) = MatchFits d r k a e
+
+-- a record as a word
+abbrev pub wordOf : Record → ℕ
+wordOf (Kept a p) = 2 * (p + 8192 * (a .start + 128 * (a .end + 128 * codeOf (a .kind))))
+wordOf (Completed d r k a e) = 1 + 2 * (d + 32 * (r + 32 * (k + 512 * (a + 8192 * e))))
+
+-- the next word of the store, unless 4,096 are taken
+unfoldable pub taken : ℕ → List ℕ → Record → List ℕ × Room
+taken used store x = select (eqb used 4096) (store, Full) (set store used (wordOf x), Taken (record { used = used + 1 }))
+
 -- a record is taken, the next of the log, or 4,096 are
 pub record Added (used : ℕ) (store store′ : List ℕ) (x : Record) (p : Pool) : Type 0 where
   pub room : used < 4096
@@ -69,6 +81,11 @@ pub record Added (used : ℕ) (store store′ : List ℕ) (x : Record) (p : Pool
 abbrev pub TakenAs : Room → ℕ → List ℕ → List ℕ → Record → Type 0
 TakenAs (Taken p) used store store′ x = Added used store store′ x p
 TakenAs Full used store store′ x = used ≡ 4096
+
+-- what taking a record leaves: store and answer, and what that is to the log
+pub record TakenBy (used : ℕ) (store store′ : List ℕ) (x : Record) (r : Room) : Type 0 where
+  pub is : (store′, r) ≡ taken used store x
+  pub log : TakenAs r used store store′ x
 
 -- what stands past a log's end
 abbrev pub nothing : Record

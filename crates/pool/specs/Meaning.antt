@@ -1,6 +1,5 @@
 -- What the pool's records mean: arguments up to one, and trees. A record says what it does through those before it, so a
 -- log is read from its start, and what a record means never changes.
-use mathlib.Core.Bool.{Bool}
 use mathlib.Core.List.{List, [], _∷_, _++_}
 use Prim.Native.Nat.{ℕ, zero, suc, _≤_, _<_}
 use mathlib.Core.Path.{_≡_}
@@ -9,7 +8,7 @@ use lib.ListN.{length, getD}
 use Rattle.plain.specs.Choice.{select}
 use Rattle.readings.specs.Tree.{Tree, node, Args, end, expr, nest}
 use Rattle.readings.specs.Walk.{Match}
-use Rattle.pool.specs.Log.{logOf, nothing}
+use Rattle.pool.specs.Log.{decode, logOf, nothing}
 use Rattle.pool.specs.declared.ArgumentKind.{ArgumentKind}
 use Rattle.pool.specs.declared.ArgumentKind.the-variants.{Expr, Nested}
 use Rattle.pool.specs.declared.Argument.{Argument}
@@ -111,6 +110,15 @@ pub record Heads (es : List Entry) (m : ℕ) (h : Head) : Type 0 where
   pub sets : h .set < 32
   pub rules : h .rule < 512
 
+-- what the record says; an argument reads as rule 0 of ruleset 0
+abbrev pub headOf : Record → Head
+headOf (Kept a p) = record { set = 0; rule = 0; args = 0 }
+headOf (Completed d r k a e) = record { set = r; rule = k; args = a }
+
+pub record HeadAt (store : List ℕ) (used m : ℕ) (h : Head) : Type 0 where
+  pub is : h ≡ headOf (decode (getD store m 0))
+  pub heads : Heads (entries store used) m h
+
 -- the arguments up to a last one, as that and the number of the one before
 abbrev pub lastMeans : List Entry → Last → Chain
 lastMeans es First = none
@@ -129,3 +137,16 @@ LastBefore n (After a p) = Before n a p
 pub record Lasts (es : List Entry) (n : ℕ) (l : Last) : Type 0 where
   pub means : chainAt es n ≡ lastMeans es l
   pub before : LastBefore n l
+
+-- what the records say; a match reads as no argument
+abbrev pub lastOf : Record → Last
+lastOf (Kept a p) = After a p
+lastOf (Completed d r k a e) = First
+
+unfoldable pub lastIn : List ℕ → ℕ → Last
+lastIn store zero = First
+lastIn store (suc i) = lastOf (decode (getD store i 0))
+
+pub record LastAt (store : List ℕ) (used n : ℕ) (l : Last) : Type 0 where
+  pub is : l ≡ lastIn store n
+  pub lasts : Lasts (entries store used) n l

@@ -4,8 +4,8 @@
 ghost use mathlib.Core.Path.{_≡_};
 ghost use Prim.Native.Nat.{_+_, _<_, _≤_};
 ghost use lib.ListN.{length, getD};
-ghost use Rattle.pool.specs.Log.{codeOf, kindOf, logOf, decode, ArgumentFits, MatchFits, TakenAs, Digits, depthIn};
-ghost use Rattle.pool.specs.Meaning.{Stored, entries, Heads, Lasts};
+ghost use Rattle.pool.specs.Log.{codeOf, kindOf, decode, ArgumentFits, MatchFits, TakenBy, Digits, depthIn};
+ghost use Rattle.pool.specs.Meaning.{Stored, HeadAt, LastAt};
 
 // What an argument is: an expression, or nested with its match's record number.
 pub enum ArgumentKind {
@@ -86,12 +86,22 @@ impl Pool {
         Pool { used: 0 }
     }
 
+    // With one record more.
+    fn more(self) -> Pool
+        requires { ⌜ self .used ≤ 4096 ⌝ }
+        ensures { λ r. ⌜ r ≡ record { used = self .used + 1 } ⌝ }
+    {
+        Pool {
+            used: self.used + 1,
+        }
+    }
+
     // A record for an argument that is kept.
     pub fn keep(self, store: &mut [usize], argument: Argument, prev: usize) -> Room
         requires { ⌜ length (now store) ≡ 4096 ⌝ }
         requires { ⌜ self .used ≤ 4096 ⌝ }
         requires { ⌜ ArgumentFits argument prev ⌝ }
-        ensures answers { λ r. ⌜ TakenAs r (self .used) (now (store .entry)) (now (store .exit)) (Record.Kept argument prev) ⌝ }
+        ensures answers { λ r. ⌜ TakenBy (self .used) (now (store .entry)) (now (store .exit)) (Record.Kept argument prev) r ⌝ }
     {
         let used = self.used;
         if used == Pool::ROOM {
@@ -101,7 +111,7 @@ impl Pool {
         let code = code_of(kind);
         store[used] = KINDS
             * (prev + NUMBERS * (argument.start + PLACES * (argument.end + PLACES * code)));
-        Room::Taken(Pool { used: used + 1 })
+        Room::Taken(self.more())
     }
 
     // A record for a match that is completed.
@@ -117,7 +127,7 @@ impl Pool {
         requires { ⌜ length (now store) ≡ 4096 ⌝ }
         requires { ⌜ self .used ≤ 4096 ⌝ }
         requires { ⌜ MatchFits depth set rule args end ⌝ }
-        ensures answers { λ r. ⌜ TakenAs r (self .used) (now (store .entry)) (now (store .exit)) (Record.Completed depth set rule args end) ⌝ }
+        ensures answers { λ r. ⌜ TakenBy (self .used) (now (store .entry)) (now (store .exit)) (Record.Completed depth set rule args end) r ⌝ }
     {
         let used = self.used;
         if used == Pool::ROOM {
@@ -125,7 +135,7 @@ impl Pool {
         }
         store[used] = 1
             + KINDS * (depth + DEPTHS * (set + RULESETS * (rule + RULES * (args + NUMBERS * end))));
-        Room::Taken(Pool { used: used + 1 })
+        Room::Taken(self.more())
     }
 }
 
@@ -212,7 +222,7 @@ pub fn depth_at(store: &[usize], m: usize) -> usize
 pub fn match_at(store: &[usize], used: usize, m: usize) -> Head
     requires { ⌜ Stored (now store) used ⌝ }
     requires { ⌜ m < used ⌝ }
-    ensures answers { λ r. ⌜ Heads (entries (now (store .entry)) used) m r ⌝ }
+    ensures answers { λ r. ⌜ HeadAt (now (store .entry)) used m r ⌝ }
 {
     let record = record_at(store, m);
     match record {
@@ -238,7 +248,7 @@ pub fn match_at(store: &[usize], used: usize, m: usize) -> Head
 pub fn last_argument(store: &[usize], used: usize, args: usize) -> Last
     requires { ⌜ Stored (now store) used ⌝ }
     requires { ⌜ args ≤ used ⌝ }
-    ensures answers { λ r. ⌜ Lasts (entries (now (store .entry)) used) args r ⌝ }
+    ensures answers { λ r. ⌜ LastAt (now (store .entry)) used args r ⌝ }
 {
     if args == 0 {
         return Last::First;

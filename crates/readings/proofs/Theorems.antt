@@ -15,8 +15,8 @@ use Rattle.defs.specs.RuledefMap.{linePrefix}
 use Rattle.extents.specs.Alike.{Alike}
 use Rattle.extents.proofs.Unread.{same-sheet, same-free, same-greedy}
 use Rattle.readings.specs.Scene.{Scene, walkerAt, sceneOf}
-use Rattle.readings.specs.Plan.{done, run}
-use Rattle.readings.specs.Walk.{Match, topPairs, tries, scan}
+use Rattle.readings.specs.Plan.{run}
+use Rattle.readings.specs.Walk.{topPairs, tries, scan}
 use Rattle.readings.specs.Lookup.{foundPairs, lookup}
 use Rattle.readings.specs.Call.{Accepted, Told, refusedAt, tree, ended, budgetFits, lined, callWith, scanCall, lookupCall}
 use Rattle.readings.specs.Demand.{Within, Demand3}

@@ -10,7 +10,7 @@ use Rattle.matcher.proofs.try_rules.Reads as reads
 use Rattle.matcher.proofs.try_rules.Lts as lts
 use Rattle.defs.proofs.ruledef.parts_of.Reads as parts-of-reads
 use Rattle.defs.proofs.ruledef.ruleset_of.Reads as ruleset-of-reads
-use Rattle.matcher.proofs.walk.match_with_rule.Reads as match-with-rule-reads
+use Rattle.walk.proofs.match_with_rule.Reads as match-with-rule-reads
 use Rattle.pool.proofs.Pool.new.Reads as Pool-new-reads
 use Rattle.syntax.proofs.walker.Walker.new.Reads as walker-Walker-new-reads
 

@@ -9,7 +9,7 @@ use Rattle.pool.proofs.record_at.Reads as record-at-reads
 
 -- src/lib.rt:220:9
 returns : tie.Need-returns
-returns c = last-none _ _ (c .if1 .taken)
+returns c = last-none _ _ _ (c .if1 .taken)
 
 -- src/lib.rt:222:35
 sub-record-at : tie.Need-sub-record-at

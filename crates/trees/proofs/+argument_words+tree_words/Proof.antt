@@ -64,7 +64,7 @@ a-argument-words-requires t c κs =
     let c-pre = c .before .before .before .before .before .before .before .pre in
     let c-last-argument = c .before .before .before .before .before .last-argument in
     let c-last = c .before .before .before .last in
-    (omega (arith, c-pre .0, before _ _ (c-last-argument .ensures) (c-last .given .1) .earlier), previous-asked words-sized (c-pre .1) (c-last-argument .ensures) (c-last .given .1))
+    (omega (arith, c-pre .0, before _ _ (c-last-argument .ensures .lasts) (c-last .given .1) .earlier), previous-asked words-sized (c-pre .1) (c-last-argument .ensures .lasts) (c-last .given .1))
 
 a-add-result : (t : ℕ) → A.Need-add-result (a-calls t) (a-at t) a-reads.Post
 a-add-result t c =
@@ -73,7 +73,7 @@ a-add-result t c =
     let c-last = c .before .before .before .before .last in
     let c-enum-told2 = c .before .enum-told2 in
     let c-argument-words = c .argument-words in
-    omega (arith, c-pre .1 .small, size-expr words-sized (c-last-argument .ensures) (c-last .given .1) (c-enum-told2 .given .1), c-argument-words .ensures)
+    omega (arith, c-pre .1 .small, size-expr words-sized (c-last-argument .ensures .lasts) (c-last .given .1) (c-enum-told2 .given .1), c-argument-words .ensures)
 
 a-enum-known-kind : (t : ℕ) → A.Need-enum-known-kind (a-calls t) (a-at t) a-reads.Post
 a-enum-known-kind t c = search needs
@@ -83,7 +83,7 @@ a-argument-words-requires-2 t c κs =
     let c-pre = c .before .before .before .before .before .before .before .before .pre in
     let c-last-argument = c .before .before .before .before .before .before .last-argument in
     let c-last = c .before .before .before .before .last in
-    (omega (arith, c-pre .0, before _ _ (c-last-argument .ensures) (c-last .given .1) .earlier), previous-asked words-sized (c-pre .1) (c-last-argument .ensures) (c-last .given .1))
+    (omega (arith, c-pre .0, before _ _ (c-last-argument .ensures .lasts) (c-last .given .1) .earlier), previous-asked words-sized (c-pre .1) (c-last-argument .ensures .lasts) (c-last .given .1))
 
 a-tree-words-requires : (t : ℕ) → A.Need-tree-words-requires (a-calls t) (a-at t) a-reads.Post
 a-tree-words-requires t c κs =
@@ -91,7 +91,7 @@ a-tree-words-requires t c κs =
     let c-last-argument = c .before .before .before .before .before .before .before .last-argument in
     let c-last = c .before .before .before .before .before .last in
     let c-kind = c .before .before .kind in
-    (omega (arith, c-pre .0, nest-earlier _ _ (c-last-argument .ensures) (c-last .given .1) (c-kind .given .1)), inner-asked words-sized (c-pre .1) (c-last-argument .ensures) (c-last .given .1) (c-kind .given .1))
+    (omega (arith, c-pre .0, nest-earlier _ _ (c-last-argument .ensures .lasts) (c-last .given .1) (c-kind .given .1)), inner-asked words-sized (c-pre .1) (c-last-argument .ensures .lasts) (c-last .given .1) (c-kind .given .1))
 
 a-add-result-2 : (t : ℕ) → A.Need-add-result-2 (a-calls t) (a-at t) a-reads.Post
 a-add-result-2 t c =
@@ -100,7 +100,7 @@ a-add-result-2 t c =
     let c-last = c .before .before .before .before .before .before .last in
     let c-kind = c .before .before .before .kind in
     let c-argument-words2 = c .before .argument-words2 in
-    omega (arith, c-pre .1 .small, words-nest (c-last-argument .ensures) (c-last .given .1) (c-kind .given .1), c-argument-words2 .ensures)
+    omega (arith, c-pre .1 .small, words-nest (c-last-argument .ensures .lasts) (c-last .given .1) (c-kind .given .1), c-argument-words2 .ensures)
 
 a-add-result-3 : (t : ℕ) → A.Need-add-result-3 (a-calls t) (a-at t) a-reads.Post
 a-add-result-3 t c =
@@ -110,13 +110,13 @@ a-add-result-3 t c =
     let c-kind = c .before .before .before .kind in
     let c-argument-words2 = c .before .argument-words2 in
     let c-tree-words = c .tree-words in
-    omega (arith, c-pre .1 .small, words-nest (c-last-argument .ensures) (c-last .given .1) (c-kind .given .1), c-argument-words2 .ensures, c-tree-words .ensures)
+    omega (arith, c-pre .1 .small, words-nest (c-last-argument .ensures .lasts) (c-last .given .1) (c-kind .given .1), c-argument-words2 .ensures, c-tree-words .ensures)
 
 a-returns : (t : ℕ) → A.Need-returns (a-calls t) (a-at t) a-reads.Post
 a-returns t c =
     let c-last-argument = c .before .before .last-argument in
     let c-enum-told = c .enum-told in
-    size-none words-sized (c-last-argument .ensures) (c-enum-told .given .1)
+    size-none words-sized (c-last-argument .ensures .lasts) (c-enum-told .given .1)
 
 a-returns-2 : (t : ℕ) → A.Need-returns-2 (a-calls t) (a-at t) a-reads.Post
 a-returns-2 t c =
@@ -124,7 +124,7 @@ a-returns-2 t c =
     let c-last = c .before .before .before .before .last in
     let c-enum-told2 = c .before .enum-told2 in
     let c-argument-words = c .argument-words in
-    omega (arith, size-expr words-sized (c-last-argument .ensures) (c-last .given .1) (c-enum-told2 .given .1), c-argument-words .ensures)
+    omega (arith, size-expr words-sized (c-last-argument .ensures .lasts) (c-last .given .1) (c-enum-told2 .given .1), c-argument-words .ensures)
 
 a-returns-3 : (t : ℕ) → A.Need-returns-3 (a-calls t) (a-at t) a-reads.Post
 a-returns-3 t c =
@@ -133,7 +133,7 @@ a-returns-3 t c =
     let c-kind = c .before .before .before .kind in
     let c-argument-words2 = c .before .argument-words2 in
     let c-tree-words = c .tree-words in
-    omega (arith, words-nest (c-last-argument .ensures) (c-last .given .1) (c-kind .given .1), c-argument-words2 .ensures, c-tree-words .ensures)
+    omega (arith, words-nest (c-last-argument .ensures .lasts) (c-last .given .1) (c-kind .given .1), c-argument-words2 .ensures, c-tree-words .ensures)
 
 m-match-at-requires : (t : ℕ) → M.Need-match-at-requires (m-calls t) (m-at t) m-reads.Post
 m-match-at-requires t c κs =
@@ -144,20 +144,20 @@ m-argument-words-requires : (t : ℕ) → M.Need-argument-words-requires (m-call
 m-argument-words-requires t c κs =
     let c-pre = c .before .before .pre in
     let c-match-at = c .match-at in
-    (omega (arith, c-pre .0, c-match-at .ensures .earlier), head-asked words-sized (c-pre .1) (c-match-at .ensures))
+    (omega (arith, c-pre .0, c-match-at .ensures .heads .earlier), head-asked words-sized (c-pre .1) (c-match-at .ensures .heads))
 
 m-add-result : (t : ℕ) → M.Need-add-result (m-calls t) (m-at t) m-reads.Post
 m-add-result t c =
     let c-pre = c .before .before .before .pre in
     let c-match-at = c .before .match-at in
     let c-argument-words = c .argument-words in
-    omega (arith, c-pre .1 .small, ap treeLength (c-match-at .ensures .means), c-argument-words .ensures)
+    omega (arith, c-pre .1 .small, ap treeLength (c-match-at .ensures .heads .means), c-argument-words .ensures)
 
 m-returns : (t : ℕ) → M.Need-returns (m-calls t) (m-at t) m-reads.Post
 m-returns t c =
     let c-match-at = c .before .match-at in
     let c-argument-words = c .argument-words in
-    omega (arith, ap treeLength (c-match-at .ensures .means), c-argument-words .ensures)
+    omega (arith, ap treeLength (c-match-at .ensures .heads .means), c-argument-words .ensures)
 
 pub +argument-words+tree-words-spec : {M : Type 1} → statement M
 +argument-words+tree-words-spec =

@@ -57,14 +57,14 @@ m-exact-parts-requires : (t : ℕ) → M.Need-exact-parts-requires (m-calls t) (
 m-exact-parts-requires t c κs =
     let c-pre = c .before .before .before .before .pre in
     let c-match-at = c .match-at in
-    (c-pre .1 .0, (c-match-at .ensures .sets, c-match-at .ensures .rules))
+    (c-pre .1 .0, (c-match-at .ensures .heads .sets, c-match-at .ensures .heads .rules))
 
 m-nested-count-requires : (t : ℕ) → M.Need-nested-count-requires (m-calls t) (m-at t) m-reads.Post
 m-nested-count-requires t c κs =
     let c-pre = c .before .before .before .before .before .pre in
     let c-match-at = c .before .match-at in
     let c-args = c .before .before .before .before .before .args in
-    (omega (arith, c-pre .0, c-match-at .ensures .earlier), (c-pre .1 .0, head-asked (count-sized (sceneOf (c-args .table .now) [] [])) (c-pre .1 .1) (c-match-at .ensures)))
+    (omega (arith, c-pre .0, c-match-at .ensures .heads .earlier), (c-pre .1 .0, head-asked (count-sized (sceneOf (c-args .table .now) [] [])) (c-pre .1 .1) (c-match-at .ensures .heads)))
 
 m-add-result : (t : ℕ) → M.Need-add-result (m-calls t) (m-at t) m-reads.Post
 m-add-result t c =
@@ -73,7 +73,7 @@ m-add-result t c =
     let c-match-at = c .before .before .match-at in
     let c-exact-parts = c .before .exact-parts in
     let c-nested-count = c .nested-count in
-    omega (arith, c-pre .1 .1 .small, ap (exactCount (sceneOf (c-args .table .now) [] [])) (c-match-at .ensures .means), c-exact-parts .ensures, c-nested-count .ensures)
+    omega (arith, c-pre .1 .1 .small, ap (exactCount (sceneOf (c-args .table .now) [] [])) (c-match-at .ensures .heads .means), c-exact-parts .ensures, c-nested-count .ensures)
 
 m-returns : (t : ℕ) → M.Need-returns (m-calls t) (m-at t) m-reads.Post
 m-returns t c =
@@ -81,7 +81,7 @@ m-returns t c =
     let c-match-at = c .before .before .match-at in
     let c-exact-parts = c .before .exact-parts in
     let c-nested-count = c .nested-count in
-    omega (arith, ap (exactCount (sceneOf (c-args .table .now) [] [])) (c-match-at .ensures .means), c-exact-parts .ensures, c-nested-count .ensures)
+    omega (arith, ap (exactCount (sceneOf (c-args .table .now) [] [])) (c-match-at .ensures .heads .means), c-exact-parts .ensures, c-nested-count .ensures)
 
 a-last-argument-requires : (t : ℕ) → A.Need-last-argument-requires (a-calls t) (a-at t) a-reads.Post
 a-last-argument-requires t c κs =
@@ -103,7 +103,7 @@ a-nested-count-requires t c κs =
     let c-last-argument = c .before .before .before .before .before .last-argument in
     let c-last = c .before .before .before .last in
     let c-args = c .before .before .before .before .before .before .before .before .before .args in
-    (omega (arith, c-pre .0, before _ _ (c-last-argument .ensures) (c-last .given .1) .earlier), (c-pre .1 .0, previous-asked (count-sized (sceneOf (c-args .table .now) [] [])) (c-pre .1 .1) (c-last-argument .ensures) (c-last .given .1)))
+    (omega (arith, c-pre .0, before _ _ (c-last-argument .ensures .lasts) (c-last .given .1) .earlier), (c-pre .1 .0, previous-asked (count-sized (sceneOf (c-args .table .now) [] [])) (c-pre .1 .1) (c-last-argument .ensures .lasts) (c-last .given .1)))
 
 a-enum-known-kind : (t : ℕ) → A.Need-enum-known-kind (a-calls t) (a-at t) a-reads.Post
 a-enum-known-kind t c = search needs
@@ -114,7 +114,7 @@ a-nested-count-requires-2 t c κs =
     let c-last-argument = c .before .before .before .before .before .before .last-argument in
     let c-last = c .before .before .before .before .last in
     let c-args = c .before .before .before .before .before .before .before .before .before .before .args in
-    (omega (arith, c-pre .0, before _ _ (c-last-argument .ensures) (c-last .given .1) .earlier), (c-pre .1 .0, previous-asked (count-sized (sceneOf (c-args .table .now) [] [])) (c-pre .1 .1) (c-last-argument .ensures) (c-last .given .1)))
+    (omega (arith, c-pre .0, before _ _ (c-last-argument .ensures .lasts) (c-last .given .1) .earlier), (c-pre .1 .0, previous-asked (count-sized (sceneOf (c-args .table .now) [] [])) (c-pre .1 .1) (c-last-argument .ensures .lasts) (c-last .given .1)))
 
 a-get-recursive-exact-part-count-requires : (t : ℕ) → A.Need-get-recursive-exact-part-count-requires (a-calls t) (a-at t) a-reads.Post
 a-get-recursive-exact-part-count-requires t c κs =
@@ -123,7 +123,7 @@ a-get-recursive-exact-part-count-requires t c κs =
     let c-last = c .before .before .before .before .before .last in
     let c-kind = c .before .before .kind in
     let c-args = c .before .before .before .before .before .before .before .before .before .before .before .args in
-    (omega (arith, c-pre .0, nest-earlier _ _ (c-last-argument .ensures) (c-last .given .1) (c-kind .given .1)), (c-pre .1 .0, inner-asked (count-sized (sceneOf (c-args .table .now) [] [])) (c-pre .1 .1) (c-last-argument .ensures) (c-last .given .1) (c-kind .given .1)))
+    (omega (arith, c-pre .0, nest-earlier _ _ (c-last-argument .ensures .lasts) (c-last .given .1) (c-kind .given .1)), (c-pre .1 .0, inner-asked (count-sized (sceneOf (c-args .table .now) [] [])) (c-pre .1 .1) (c-last-argument .ensures .lasts) (c-last .given .1) (c-kind .given .1)))
 
 a-add-result : (t : ℕ) → A.Need-add-result (a-calls t) (a-at t) a-reads.Post
 a-add-result t c =
@@ -134,14 +134,14 @@ a-add-result t c =
     let c-kind = c .before .before .before .kind in
     let c-nested-count2 = c .before .nested-count2 in
     let c-get-recursive-exact-part-count = c .get-recursive-exact-part-count in
-    omega (arith, c-pre .1 .1 .small, size-nest (count-sized (sceneOf (c-args .table .now) [] [])) (c-last-argument .ensures) (c-last .given .1) (c-kind .given .1), c-nested-count2 .ensures, c-get-recursive-exact-part-count .ensures)
+    omega (arith, c-pre .1 .1 .small, size-nest (count-sized (sceneOf (c-args .table .now) [] [])) (c-last-argument .ensures .lasts) (c-last .given .1) (c-kind .given .1), c-nested-count2 .ensures, c-get-recursive-exact-part-count .ensures)
 
 a-returns : (t : ℕ) → A.Need-returns (a-calls t) (a-at t) a-reads.Post
 a-returns t c =
     let c-args = c .before .before .before .before .before .before .args in
     let c-last-argument = c .before .before .last-argument in
     let c-enum-told = c .enum-told in
-    size-none (count-sized (sceneOf (c-args .table .now) [] [])) (c-last-argument .ensures) (c-enum-told .given .1)
+    size-none (count-sized (sceneOf (c-args .table .now) [] [])) (c-last-argument .ensures .lasts) (c-enum-told .given .1)
 
 a-returns-2 : (t : ℕ) → A.Need-returns-2 (a-calls t) (a-at t) a-reads.Post
 a-returns-2 t c =
@@ -150,7 +150,7 @@ a-returns-2 t c =
     let c-last = c .before .before .before .before .last in
     let c-enum-told2 = c .before .enum-told2 in
     let c-nested-count = c .nested-count in
-    omega (arith, size-expr (count-sized (sceneOf (c-args .table .now) [] [])) (c-last-argument .ensures) (c-last .given .1) (c-enum-told2 .given .1), c-nested-count .ensures)
+    omega (arith, size-expr (count-sized (sceneOf (c-args .table .now) [] [])) (c-last-argument .ensures .lasts) (c-last .given .1) (c-enum-told2 .given .1), c-nested-count .ensures)
 
 a-returns-3 : (t : ℕ) → A.Need-returns-3 (a-calls t) (a-at t) a-reads.Post
 a-returns-3 t c =
@@ -160,7 +160,7 @@ a-returns-3 t c =
     let c-kind = c .before .before .before .kind in
     let c-nested-count2 = c .before .nested-count2 in
     let c-get-recursive-exact-part-count = c .get-recursive-exact-part-count in
-    omega (arith, size-nest (count-sized (sceneOf (c-args .table .now) [] [])) (c-last-argument .ensures) (c-last .given .1) (c-kind .given .1), c-nested-count2 .ensures, c-get-recursive-exact-part-count .ensures)
+    omega (arith, size-nest (count-sized (sceneOf (c-args .table .now) [] [])) (c-last-argument .ensures .lasts) (c-last .given .1) (c-kind .given .1), c-nested-count2 .ensures, c-get-recursive-exact-part-count .ensures)
 
 pub +get-recursive-exact-part-count+nested-count-spec : {M : Type 1} → statement M
 +get-recursive-exact-part-count+nested-count-spec =

@@ -58,21 +58,21 @@ m-returns t c =
     let c-match-at = c .before .before .before .before .match-at in
     let c-match-at2 = c .before .before .before .match-at2 in
     let c-if1 = c .if1 in
-    sets-differ (c-match-at .ensures) (c-match-at2 .ensures) (c-if1 .taken)
+    sets-differ (c-match-at .ensures .heads) (c-match-at2 .ensures .heads) (c-if1 .taken)
 
 m-returns-2 : (t : ℕ) → M.Need-returns-2 (m-calls t) (m-at t) m-reads.Post
 m-returns-2 t c =
     let c-match-at = c .before .before .before .before .before .before .before .match-at in
     let c-match-at2 = c .before .before .before .before .before .before .match-at2 in
     let c-if2 = c .if2 in
-    rules-differ (c-match-at .ensures) (c-match-at2 .ensures) (c-if2 .taken)
+    rules-differ (c-match-at .ensures .heads) (c-match-at2 .ensures .heads) (c-if2 .taken)
 
 m-same-arguments-requires : (t : ℕ) → M.Need-same-arguments-requires (m-calls t) (m-at t) m-reads.Post
 m-same-arguments-requires t c κs =
     let c-pre = c .before .before .before .before .before .before .before .before .before .pre in
     let c-match-at = c .before .before .before .before .before .before .before .match-at in
     let c-match-at2 = c .before .before .before .before .before .before .match-at2 in
-    (omega (arith, c-pre .0, c-match-at .ensures .earlier), (c-pre .1 .0, (omega (arith, c-pre .1 .1 .0, c-match-at .ensures .earlier), omega (arith, c-pre .1 .1 .1, c-match-at2 .ensures .earlier))))
+    (omega (arith, c-pre .0, c-match-at .ensures .heads .earlier), (c-pre .1 .0, (omega (arith, c-pre .1 .1 .0, c-match-at .ensures .heads .earlier), omega (arith, c-pre .1 .1 .1, c-match-at2 .ensures .heads .earlier))))
 
 m-returns-3 : (t : ℕ) → M.Need-returns-3 (m-calls t) (m-at t) m-reads.Post
 m-returns-3 t c =
@@ -81,7 +81,7 @@ m-returns-3 t c =
     let c-if1 = c .before .before .before .before .if1 in
     let c-if2 = c .before .if2 in
     let c-same-arguments = c .same-arguments in
-    by-arguments (c-match-at .ensures) (c-match-at2 .ensures) (c-if1 .left) (c-if2 .left) (c-same-arguments .ensures)
+    by-arguments (c-match-at .ensures .heads) (c-match-at2 .ensures .heads) (c-if1 .left) (c-if2 .left) (c-same-arguments .ensures)
 
 a-last-argument-requires : (t : ℕ) → A.Need-last-argument-requires (a-calls t) (a-at t) a-reads.Post
 a-last-argument-requires t c κs =
@@ -127,8 +127,8 @@ a-same-arguments-requires t c κs =
     let c-last-argument2 = c .before .before .before .before .before .before .before .before .before .last-argument2 in
     let c-other = c .before .before .before .before .other in
     let c-pre = c .before .before .before .before .before .before .before .before .before .before .before .before .pre in
-    let x = before _ _ (c-last-argument .ensures) (c-last .given .1) .earlier in
-    let y = before _ _ (c-last-argument2 .ensures) (c-other .given .1) .earlier in
+    let x = before _ _ (c-last-argument .ensures .lasts) (c-last .given .1) .earlier in
+    let y = before _ _ (c-last-argument2 .ensures .lasts) (c-other .given .1) .earlier in
     (omega (arith, c-pre .0), (c-pre .1 .0, (omega (arith, c-pre .1 .1 .0), omega (arith, c-pre .1 .1 .1))))
 
 a-enum-known-same : (t : ℕ) → A.Need-enum-known-same (a-calls t) (a-at t) a-reads.Post
@@ -143,7 +143,7 @@ a-is-same-requires t c κs =
     let c-compare = c .before .before .before .compare in
     let c-same = c .before .same in
     let c-pre = c .before .before .before .before .before .before .before .before .before .before .before .before .before .pre in
-    let (x, y) = inner-earlier (c-last-argument .ensures) (c-last-argument2 .ensures) (c-last .given .1) (c-other .given .1) (c-compare .ensures) (c-same .given .1) in
+    let (x, y) = inner-earlier (c-last-argument .ensures .lasts) (c-last-argument2 .ensures .lasts) (c-last .given .1) (c-other .given .1) (c-compare .ensures) (c-same .given .1) in
     (omega (arith, c-pre .0), (c-pre .1 .0, (omega (arith, c-pre .1 .1 .0), omega (arith, c-pre .1 .1 .1))))
 
 a-returns : (t : ℕ) → A.Need-returns (a-calls t) (a-at t) a-reads.Post
@@ -156,7 +156,7 @@ a-returns t c =
     let c-same = c .before .before .before .same in
     let c-is-same = c .before .is-same in
     let c-if1 = c .if1 in
-    inner-differ (c-last-argument .ensures) (c-last-argument2 .ensures) (c-last .given .1) (c-other .given .1) (c-compare .ensures) (c-same .given .1) (c-is-same .ensures) (c-if1 .taken)
+    inner-differ (c-last-argument .ensures .lasts) (c-last-argument2 .ensures .lasts) (c-last .given .1) (c-other .given .1) (c-compare .ensures) (c-same .given .1) (c-is-same .ensures) (c-if1 .taken)
 
 a-same-arguments-requires-2 : (t : ℕ) → A.Need-same-arguments-requires-2 (a-calls t) (a-at t) a-reads.Post
 a-same-arguments-requires-2 t c κs =
@@ -165,8 +165,8 @@ a-same-arguments-requires-2 t c κs =
     let c-last-argument2 = c .before .before .before .before .before .before .before .before .before .before .before .before .last-argument2 in
     let c-other = c .before .before .before .before .before .before .before .other in
     let c-pre = c .before .before .before .before .before .before .before .before .before .before .before .before .before .before .before .pre in
-    let x = before _ _ (c-last-argument .ensures) (c-last .given .1) .earlier in
-    let y = before _ _ (c-last-argument2 .ensures) (c-other .given .1) .earlier in
+    let x = before _ _ (c-last-argument .ensures .lasts) (c-last .given .1) .earlier in
+    let y = before _ _ (c-last-argument2 .ensures .lasts) (c-other .given .1) .earlier in
     (omega (arith, c-pre .0), (c-pre .1 .0, (omega (arith, c-pre .1 .1 .0), omega (arith, c-pre .1 .1 .1))))
 
 a-returns-2 : (t : ℕ) → A.Need-returns-2 (a-calls t) (a-at t) a-reads.Post
@@ -175,7 +175,7 @@ a-returns-2 t c =
     let c-last-argument2 = c .before .before .before .before .last-argument2 in
     let c-enum-told = c .before .before .enum-told in
     let c-enum-told2 = c .enum-told2 in
-    both-none (c-last-argument .ensures) (c-last-argument2 .ensures) (c-enum-told .given .1) (c-enum-told2 .given .1)
+    both-none (c-last-argument .ensures .lasts) (c-last-argument2 .ensures .lasts) (c-enum-told .given .1) (c-enum-told2 .given .1)
 
 a-returns-3 : (t : ℕ) → A.Need-returns-3 (a-calls t) (a-at t) a-reads.Post
 a-returns-3 t c =
@@ -183,7 +183,7 @@ a-returns-3 t c =
     let c-last-argument2 = c .before .before .before .before .last-argument2 in
     let c-enum-told = c .before .before .enum-told in
     let c-enum-told3 = c .enum-told3 in
-    first-none (c-last-argument .ensures) (c-last-argument2 .ensures) (c-enum-told .given .1) (c-enum-told3 .given .1)
+    first-none (c-last-argument .ensures .lasts) (c-last-argument2 .ensures .lasts) (c-enum-told .given .1) (c-enum-told3 .given .1)
 
 a-returns-4 : (t : ℕ) → A.Need-returns-4 (a-calls t) (a-at t) a-reads.Post
 a-returns-4 t c =
@@ -191,7 +191,7 @@ a-returns-4 t c =
     let c-last-argument2 = c .before .before .before .before .before .last-argument2 in
     let c-last = c .before .before .before .last in
     let c-enum-told4 = c .enum-told4 in
-    second-none (c-last-argument .ensures) (c-last-argument2 .ensures) (c-last .given .1) (c-enum-told4 .given .1)
+    second-none (c-last-argument .ensures .lasts) (c-last-argument2 .ensures .lasts) (c-last .given .1) (c-enum-told4 .given .1)
 
 a-returns-5 : (t : ℕ) → A.Need-returns-5 (a-calls t) (a-at t) a-reads.Post
 a-returns-5 t c =
@@ -201,7 +201,7 @@ a-returns-5 t c =
     let c-other = c .before .before .before .before .other in
     let c-compare = c .before .before .compare in
     let c-enum-told5 = c .enum-told5 in
-    different (c-last-argument .ensures) (c-last-argument2 .ensures) (c-last .given .1) (c-other .given .1) (c-compare .ensures) (c-enum-told5 .given .1)
+    different (c-last-argument .ensures .lasts) (c-last-argument2 .ensures .lasts) (c-last .given .1) (c-other .given .1) (c-compare .ensures) (c-enum-told5 .given .1)
 
 a-returns-6 : (t : ℕ) → A.Need-returns-6 (a-calls t) (a-at t) a-reads.Post
 a-returns-6 t c =
@@ -212,7 +212,7 @@ a-returns-6 t c =
     let c-compare = c .before .before .before .compare in
     let c-enum-told6 = c .before .enum-told6 in
     let c-same-arguments = c .same-arguments in
-    alike (c-last-argument .ensures) (c-last-argument2 .ensures) (c-last .given .1) (c-other .given .1) (c-compare .ensures) (c-enum-told6 .given .1) (c-same-arguments .ensures)
+    alike (c-last-argument .ensures .lasts) (c-last-argument2 .ensures .lasts) (c-last .given .1) (c-other .given .1) (c-compare .ensures) (c-enum-told6 .given .1) (c-same-arguments .ensures)
 
 a-returns-7 : (t : ℕ) → A.Need-returns-7 (a-calls t) (a-at t) a-reads.Post
 a-returns-7 t c =
@@ -225,7 +225,7 @@ a-returns-7 t c =
     let c-is-same = c .before .before .is-same in
     let c-if1 = c .before .if1 in
     let c-same-arguments2 = c .same-arguments2 in
-    inner-alike (c-last-argument .ensures) (c-last-argument2 .ensures) (c-last .given .1) (c-other .given .1) (c-compare .ensures) (c-same .given .1) (c-is-same .ensures) (c-if1 .left) (c-same-arguments2 .ensures)
+    inner-alike (c-last-argument .ensures .lasts) (c-last-argument2 .ensures .lasts) (c-last .given .1) (c-other .given .1) (c-compare .ensures) (c-same .given .1) (c-is-same .ensures) (c-if1 .left) (c-same-arguments2 .ensures)
 
 pub +is-same+same-arguments-spec : {M : Type 1} → statement M
 +is-same+same-arguments-spec =

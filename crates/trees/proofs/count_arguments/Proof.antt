@@ -27,7 +27,7 @@ enum-told : tie.Need-enum-told Inv-loop μ-loop
 enum-told c = search needs
 
 returns : tie.Need-returns Inv-loop μ-loop
-returns c = (omega (arith, ap argCount (none-before _ _ (c .before .before .last-argument .ensures) (c .enum-told .given .1))), omega arith)
+returns c = (omega (arith, ap argCount (none-before _ _ (c .before .before .last-argument .ensures .lasts) (c .enum-told .given .1))), omega arith)
 
 enum-known-last : tie.Need-enum-known-last Inv-loop μ-loop
 enum-known-last c = search needs
@@ -36,12 +36,12 @@ add-count : tie.Need-add-count Inv-loop μ-loop
 add-count c = omega (arith, c .before .before .before .before .before .before .pre .0 .room)
 
 loop-less : tie.Need-loop-less Inv-loop μ-loop
-loop-less c = before _ _ (c .before .before .before .last-argument .ensures) (c .before .last .given .1) .earlier
+loop-less c = before _ _ (c .before .before .before .last-argument .ensures .lasts) (c .before .last .given .1) .earlier
 
 loop-again : tie.Need-loop-again Inv-loop μ-loop
 loop-again c =
-    let low = before _ _ (c .before .before .before .last-argument .ensures) (c .before .last .given .1) .earlier in
-    (omega arith, (omega arith, omega (arith, many-after _ _ (c .before .before .before .last-argument .ensures) (c .before .last .given .1))))
+    let low = before _ _ (c .before .before .before .last-argument .ensures .lasts) (c .before .last .given .1) .earlier in
+    (omega arith, (omega arith, omega (arith, many-after _ _ (c .before .before .before .last-argument .ensures .lasts) (c .before .last .given .1))))
 
 pub count-arguments-spec : {M : Type 1} → statement M
 count-arguments-spec =

@@ -1,0 +1,13 @@
+pub mod Outcomes
+pub mod Logs
+pub mod Ending
+pub mod Inners
+pub mod Turns
+pub mod Loops
+pub mod Turned
+pub mod Places
+pub mod Held
+pub mod Exprs
+pub mod Rules
+pub mod Nests
+pub mod Tight
