@@ -1,0 +1,130 @@
+// The C interface: `include/tholdrimash.h` declares these functions, and documents every number and field. Each is one call
+// of `matcher` or `resolver`, with the answer's number and fields as a C struct; a slice is a pointer and a length.
+use matcher::Answer;
+use resolver::instruction::Selection;
+ghost use mathlib.Core.Path.{_≡_};
+ghost use mathlib.Core.Bool.{not};
+ghost use mathlib.Core.List.{List};
+ghost use Prim.Native.Nat.{ℕ, _≤_};
+ghost use lib.Dec.{eqb};
+ghost use Rattle.readings.specs.Call.{Accepted, scanCall, lookupCall};
+ghost use Rattle.readings.specs.Demand.{Within, Demand3};
+ghost use Rattle.readings.specs.Scene.{sceneOf};
+ghost use Rattle.matcher.specs.Told.{says};
+ghost use Rattle.tholdrimash.specs.Interface.{told, chose, ChosenOnLast};
+ghost use Rattle.resolver.specs.Selection.{selected, selectionSays};
+
+// What matching returns; unstated fields are 0.
+#[repr(C)]
+pub struct TholdrimashAnswer {
+    pub number: u32,
+    pub visits: u32,
+    pub words: u32,
+    pub place: u32,
+}
+
+// What selection returns.
+#[repr(C)]
+pub struct TholdrimashSelection {
+    pub number: u32,
+    pub count: u32,
+}
+
+fn answer_of(number: u32, visits: u32, words: u32, place: u32) -> TholdrimashAnswer
+    ensures { λ r. ⌜ r ≡ record { number = number; visits = visits; words = words; place = place } ⌝ }
+{
+    TholdrimashAnswer {
+        number,
+        visits,
+        words,
+        place,
+    }
+}
+
+// Each answer's number and fields.
+fn fields(answer: Answer) -> TholdrimashAnswer
+    ensures { λ r. ⌜ ((b : List ℕ) → told r b ≡ says answer b) ⌝ }
+{
+    match answer {
+        Answer::Matched { visits, words } => answer_of(0, visits, words, 0),
+        Answer::NoMatch { visits } => answer_of(1, visits, 0, 0),
+        Answer::BadTable => answer_of(2, 0, 0, 0),
+        Answer::BadLine { place } => answer_of(3, 0, 0, place),
+        Answer::BadSheet => answer_of(4, 0, 0, 0),
+        Answer::BadBudget => answer_of(5, 0, 0, 0),
+        Answer::Spent { visits } => answer_of(6, visits, 0, 0),
+        Answer::TooDeep { visits } => answer_of(7, visits, 0, 0),
+        Answer::PoolFull { visits } => answer_of(8, visits, 0, 0),
+        Answer::TooLong { visits, words } => answer_of(9, visits, words, 0),
+    }
+}
+
+// The full scan.
+#[no_mangle]
+pub extern "C" fn tholdrimash_match(
+    table: &[u16],
+    line: &[u8],
+    sheet: &[u8],
+    budget: u32,
+    answer: &mut [u16],
+) -> TholdrimashAnswer
+    ensures answers { λ r. ⌜ told r (now (answer .exit)) ≡ scanCall (now (table .entry)) (now (line .entry)) (now (sheet .entry)) budget (now (answer .entry)) ⌝ }
+    ensures readings { λ r. ⌜ (Accepted (now (table .entry)) (now (line .entry)) (now (sheet .entry)) budget → Within (now (table .entry)) (now (line .entry)) (now (sheet .entry)) budget → Demand3 (sceneOf (now (table .entry)) (now (line .entry)) (now (sheet .entry))) (now (answer .entry)) (told r (now (answer .exit)))) ⌝ }
+{
+    fields(matcher::match_instr(table, line, sheet, budget, answer))
+}
+
+// Prefix lookup.
+#[no_mangle]
+pub extern "C" fn tholdrimash_lookup(
+    table: &[u16],
+    line: &[u8],
+    sheet: &[u8],
+    budget: u32,
+    answer: &mut [u16],
+) -> TholdrimashAnswer
+    ensures answers { λ r. ⌜ told r (now (answer .exit)) ≡ lookupCall (now (table .entry)) (now (line .entry)) (now (sheet .entry)) budget (now (answer .entry)) ⌝ }
+    ensures readings { λ r. ⌜ (Accepted (now (table .entry)) (now (line .entry)) (now (sheet .entry)) budget → Within (now (table .entry)) (now (line .entry)) (now (sheet .entry)) budget → Demand3 (sceneOf (now (table .entry)) (now (line .entry)) (now (sheet .entry))) (now (answer .entry)) (told r (now (answer .exit)))) ⌝ }
+    ensures visits { λ r. ⌜ (Accepted (now (table .entry)) (now (line .entry)) (now (sheet .entry)) budget → Within (now (table .entry)) (now (line .entry)) (now (sheet .entry)) budget → r .visits ≤ scanCall (now (table .entry)) (now (line .entry)) (now (sheet .entry)) budget (now (answer .entry)) .visits) ⌝ }
+{
+    fields(matcher::match_with_ruledef_map(table, line, sheet, budget, answer))
+}
+
+// Each case's number and count.
+fn chosen_fields(selection: Selection) -> TholdrimashSelection
+    requires { ⌜ selectionSays selection .1 ≤ 4096 ⌝ }
+    ensures { λ r. ⌜ (r .number, r .count) ≡ selectionSays selection ⌝ }
+{
+    match selection {
+        Selection::Chosen { count } => chosen_of(0, count),
+        Selection::BadList => chosen_of(10, 0),
+        Selection::NoneResolved => chosen_of(11, 0),
+        Selection::NoneKnown => chosen_of(12, 0),
+        Selection::Tied { count } => chosen_of(13, count),
+        Selection::NoRoom { count } => chosen_of(14, count),
+    }
+}
+
+fn chosen_of(number: u32, count: usize) -> TholdrimashSelection
+    requires { ⌜ count ≤ 4096 ⌝ }
+    ensures { λ r. ⌜ r ≡ record { number = number; count = count } ⌝ }
+{
+    TholdrimashSelection {
+        number,
+        count: count as u32,
+    }
+}
+
+// Size selection. `last` is 0 while guessing is allowed, else this is the last pass.
+#[no_mangle]
+pub extern "C" fn tholdrimash_select(
+    outcomes: &mut [u32],
+    last: u32,
+    chosen: &mut [u16],
+) -> TholdrimashSelection
+    ensures answers { λ r. ⌜ chose r (now (outcomes .exit)) (now (chosen .exit)) ≡ selected (now (outcomes .entry)) (not (eqb last 0)) (now (chosen .entry)) ⌝ }
+    ensures last_pass { λ r. ⌜ ChosenOnLast (now (outcomes .entry)) (not (eqb last 0)) (now (chosen .entry)) r (now (chosen .exit)) ⌝ }
+{
+    let selection = resolver::instruction::resolve_encoding(outcomes, last != 0, chosen);
+    chosen_fields(selection)
+}
