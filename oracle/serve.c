@@ -6,9 +6,9 @@
  * place, and how many words of the answer buffer, from its start, there are up to the last one that was changed; then those
  * words. The program ends at the end of its input.
  *
- * Built with -DSELECT it serves size selection instead. A request is then: 0, number of outcome words, 1 on the last pass or else 0, 0, 0, room for indices, 0; then the outcome
- * words (32 bits). The reply is number, count, 0, 0, words of the buffer up to the last one changed; then those; then the
- * outcome words after the call. */
+ * Built with -DSELECT it serves size selection instead. A request is then: 0, number of outcome words, 1 on the last pass
+ * or else 0, 0, 0, room for indices, 0; then the outcome words (32 bits). The reply is number, count, 0, 0, words of the
+ * buffer up to the last one changed; then those; then the outcome words after the call. */
 #include "tholdrimash.h"
 
 enum { MOST = 1 << 16, FILLER = 0xA5C3, OUT = 1 << 20 };
