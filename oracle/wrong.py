@@ -3,15 +3,13 @@
 
     wrong.py [--text RUST_TEXT] [--cases N] [--seed S] [--only WORDS]
 
-Run it after `run`, which builds the programs that it uses. An edit that no longer fits the text, or a copy that doesn't
-build, is an error, as is a copy that the comparison can't tell from the Rust; so is a difference from the Rust itself,
-which comes first. One copy is there because it changes nothing: it must not be told apart. Copies are made in a temporary
-folder and removed.
+Run it after `run`, which builds the program that it uses. The random cases alone are run, not the exhaustive short ones.
+An edit that no longer fits the text, or a copy that doesn't build, is an error, as is a copy that the comparison can't tell
+from the Rust; so is a difference from the Rust itself, which comes first. One copy is there because it changes nothing: it
+must not be told apart. Copies are made in a temporary folder and removed.
 """
 import argparse
-import os
 import pathlib
-import platform
 import shutil
 import subprocess
 import sys
@@ -30,6 +28,10 @@ SAME_PLACE = "|a, b| a.1.next_useful_index() == b.1.next_useful_index()"
 GREEDY = "exprs.push((expr, walker_usize_greedy));"
 UNCUT = "let mut results = parse_fn(walker.clone());\n"
 NESTED_CALL = "                    walker.clone(),\n                    {})),"
+WHITE_PART = """walker.next_token().kind != syntax::TokenKind::Whitespace
+                {
+                    return vec![];
+                }"""
 CLOSER = "if paren_nesting == 0\n                    { break; }\n                \n                paren_nesting -= 1;"
 
 # What is wrong, in which file, the text there and what stands for it.
@@ -63,6 +65,7 @@ WRONG = [
     ("braces hide nothing", WALKER, "paren_nesting == 0 &&\n                brace_nesting == 0", "paren_nesting == 0"),
     ("brackets hide nothing", WALKER, "seen_tokens &&\n                paren_nesting == 0 &&", "seen_tokens &&"),
     # exact parts and whitespace
+    ("a whitespace part eats whitespace", MATCHER, WHITE_PART, WHITE_PART + "\n                walker.skip_ignorable();\n"),
     ("an exact part in this case only", WALKER, "if c.eq_ignore_ascii_case(&wanted_char)\n", "if c == wanted_char\n"),
     ("no whitespace before an exact part", WALKER, "let index = self.next_useful_index();\n\n        let c",
      "let index = self.cursor_index;\n\n        let c"),
@@ -102,25 +105,18 @@ WRONG = [
 REDUNDANT = ("the limit put back once, not twice", MATCHER, "walker.set_cursor_limit(walker_limit_prev);", "")
 
 
-def emulator():
-    return "" if platform.machine() == "x86_64" else os.environ.get("EMULATOR", "qemu-x86_64") + " "
-
-
-def compare(oracle, selection, args):
-    """Whether the comparison ends with a difference; any other failure stops this program."""
-    script, serve = ("compare_select.py", "serve-select") if selection else ("compare.py", "serve")
-    words = [sys.executable, HERE / script, "--oracle", oracle, "--serve", f"{emulator()}{BUILT / serve}",
-             "--seed", args.seed, "--cases", str(args.cases)]
-    if not selection:
-        words += ["--no-model", "--stop"]
-    done = subprocess.run(words, capture_output=True, text=True)
-    if done.returncode not in (0, 1) or done.stderr.count("Traceback"):
-        sys.exit(f"wrong: the comparison failed: {done.stderr}")
-    return done.returncode == 1
+def compare(oracle, part, args):
+    """Whether the comparison tells the copy apart: by a difference, or because the copy goes round until its stack is full,
+    where the Rust ends. Any other failure stops this program."""
+    words = [BUILT / "compare", "--only", part, "--seed", args.seed, "--cases", str(args.cases), "--quick"]
+    done = subprocess.run(words, env={"LD_LIBRARY_PATH": str(oracle)}, capture_output=True, text=True)
+    if done.returncode not in (0, 1) and "overflowed its stack" not in done.stderr:
+        sys.exit(f"wrong: the comparison failed: {done.returncode} {done.stderr}")
+    return done.returncode != 0
 
 
 def copy_with(text, edit, folder):
-    """Builds the Rust with one edit; the built library."""
+    """Builds the Rust with one edit; the folder that has the library."""
     name, file, old, new = edit
     shutil.copytree(text, folder / "src")
     path = folder / "src" / file
@@ -132,7 +128,7 @@ def copy_with(text, edit, folder):
     done = subprocess.run([HERE / "build", folder / "src", folder], capture_output=True, text=True)
     if done.returncode:
         sys.exit(f"wrong: {name}: does not build: {done.stderr}")
-    return folder / "liboracle.so"
+    return folder
 
 
 def main():
@@ -143,18 +139,18 @@ def main():
     args.add_argument("--only", default="", help="only the edits whose name has these words")
     args = args.parse_args()
 
-    for selection in (False, True):
-        if compare(BUILT / "liboracle.so", selection, args):
-            sys.exit("wrong: the proved code differs from the Rust itself")
+    if any(compare(BUILT, part, args) for part in ("ground", "matching", "selection")):
+        sys.exit("wrong: the proved code differs from the Rust itself")
 
     missed = 0
     edits = [edit for edit in WRONG + [REDUNDANT] if args.only in edit[0]]
     for edit in edits:
         with tempfile.TemporaryDirectory() as folder:
             oracle = copy_with(args.text, edit, pathlib.Path(folder))
-            seen = compare(oracle, edit[1] == RESOLVER, args)
-        missed += seen == (edit is REDUNDANT)
-        print(f"{'seen    ' if seen else 'not seen'} {edit[0]}", flush=True)
+            parts = ["selection"] if edit[1] == RESOLVER else ["matching", "ground"]
+            seen = [part for part in parts if compare(oracle, part, args)]
+        missed += bool(seen) == (edit is REDUNDANT)
+        print(f"{'seen by ' + ' and '.join(seen) if seen else 'not seen':27} {edit[0]}", flush=True)
     print(f"{len(edits)} copies, {missed} judged wrongly")
     return 1 if missed else 0
 

@@ -2,6 +2,7 @@
 // From `src/syntax/token.rs` of the Rust, whose `is_whitespace` is not in the published text: document 01
 // says what it is. Total: every byte has a class, and nothing is refused.
 ghost use mathlib.Core.Path.{_≡_};
+ghost use Prim.Native.Nat.{_<_};
 ghost use Rattle.syntax.specs.Token.{classOf, isWhitespace, lowered, sameLetter};
 
 // The lower-case partner of each byte, and 256 times its kind: 1 whitespace, 2 `(`, 3 `)`, 4 `{`, 5 `}`, else 0.
@@ -268,6 +269,17 @@ const PARTNERS: u16 = 256;
 
 const WHITESPACE: u16 = 1;
 
+// No byte above this is whitespace, and none outside the next two has a partner other than itself. The compiler builds the
+// table anew at each read, so it is read only for the bytes that these leave.
+const LAST_WHITESPACE: u8 = 32;
+
+const FIRST_CAPITAL: u8 = 65;
+
+const LAST_CAPITAL: u8 = 90;
+
+// How far a capital's partner stands above it.
+const STEP: u8 = 32;
+
 fn class(b: u8) -> u16
     ensures { λ r. ⌜ r ≡ classOf b ⌝ }
 {
@@ -279,6 +291,9 @@ fn class(b: u8) -> u16
 pub fn is_whitespace(b: u8) -> bool
     ensures answers { λ r. ⌜ r ≡ isWhitespace b ⌝ }
 {
+    if LAST_WHITESPACE < b {
+        return false;
+    }
     class(b) / PARTNERS == WHITESPACE
 }
 
@@ -286,6 +301,12 @@ pub fn is_whitespace(b: u8) -> bool
 pub fn to_ascii_lowercase(b: u8) -> u8
     ensures answers { λ r. ⌜ r ≡ lowered b ⌝ }
 {
+    if b < FIRST_CAPITAL {
+        return b;
+    }
+    if LAST_CAPITAL < b {
+        return b;
+    }
     (class(b) % PARTNERS) as u8
 }
 
@@ -293,5 +314,22 @@ pub fn to_ascii_lowercase(b: u8) -> u8
 pub fn eq_ignore_ascii_case(a: u8, b: u8) -> bool
     ensures answers { λ r. ⌜ r ≡ sameLetter a b ⌝ }
 {
-    to_ascii_lowercase(a) == to_ascii_lowercase(b)
+    if a < b {
+        return is_capital_of(a, b);
+    }
+    if b < a {
+        return is_capital_of(b, a);
+    }
+    true
+}
+
+// Of two bytes that differ, only a capital and its partner are the same.
+fn is_capital_of(lesser: u8, greater: u8) -> bool
+    requires { ⌜ lesser < greater ⌝ }
+    ensures { λ r. ⌜ r ≡ sameLetter lesser greater ⌝ }
+{
+    if greater - lesser != STEP {
+        return false;
+    }
+    to_ascii_lowercase(lesser) == greater
 }

@@ -1,0 +1,272 @@
+//! Times the proved library and the Rust text in one process on the same inputs (docs/PERFORMANCE.md says how).
+//!
+//!     bench                     times every case and prints the tables
+//!     bench --list              prints the cases' names
+//!     bench --once NAME SIDE    runs one case once on one side, for a count of instructions: `proved`, `checks` or `rust`
+mod cases;
+
+use cases::Case;
+use std::hint::black_box;
+use std::time::{Duration, Instant};
+
+const BUDGET: u32 = 1_000_000;
+const ROOM: usize = 4096;
+
+/// Samples of each side, taken in turn; the least counts.
+const SAMPLES: usize = 15;
+/// How long a sample takes at least.
+const SAMPLE: Duration = Duration::from_millis(4);
+
+#[repr(C)]
+struct Answer {
+    number: u32,
+    visits: u32,
+    words: u32,
+    place: u32,
+}
+
+#[repr(C)]
+struct Selection {
+    number: u32,
+    count: u32,
+}
+
+#[link(name = "tholdrimash", kind = "static")]
+extern "C" {
+    fn tholdrimash_match(
+        table: *const u16,
+        table_len: usize,
+        line: *const u8,
+        line_len: usize,
+        sheet: *const u8,
+        sheet_len: usize,
+        budget: u32,
+        answer: *mut u16,
+        answer_len: usize,
+    ) -> Answer;
+    fn tholdrimash_lookup(
+        table: *const u16,
+        table_len: usize,
+        line: *const u8,
+        line_len: usize,
+        sheet: *const u8,
+        sheet_len: usize,
+        budget: u32,
+        answer: *mut u16,
+        answer_len: usize,
+    ) -> Answer;
+    fn tholdrimash_select(
+        outcomes: *mut u32,
+        outcomes_len: usize,
+        last_pass: u32,
+        chosen: *mut u16,
+        chosen_len: usize,
+    ) -> Selection;
+}
+
+/// A call of the proved library. With budget 0 it ends after its checks, in number 5.
+fn proved(case: &Case, lookup: bool, budget: u32, room: &mut [u16]) -> Answer {
+    let run = if lookup { tholdrimash_lookup } else { tholdrimash_match };
+    // SAFETY: each pointer and length are one slice's.
+    unsafe {
+        run(
+            case.table.as_ptr(),
+            case.table.len(),
+            case.line.as_ptr(),
+            case.line.len(),
+            case.sheet.as_ptr(),
+            case.sheet.len(),
+            budget,
+            room.as_mut_ptr(),
+            room.len(),
+        )
+    }
+}
+
+fn proved_select(words: &mut [u32], room: &mut [u16]) -> Selection {
+    // SAFETY: as above.
+    unsafe { tholdrimash_select(words.as_mut_ptr(), words.len(), 1, room.as_mut_ptr(), room.len()) }
+}
+
+// What callgrind counts: these three and what they call.
+
+#[no_mangle]
+#[inline(never)]
+fn counted_proved(case: &Case, lookup: bool, room: &mut [u16]) -> u32 {
+    proved(case, lookup, BUDGET, room).visits
+}
+
+#[no_mangle]
+#[inline(never)]
+fn counted_checks(case: &Case, lookup: bool, room: &mut [u16]) -> u32 {
+    proved(case, lookup, 0, room).number
+}
+
+#[no_mangle]
+#[inline(never)]
+fn counted_rust(defs: &oracle::asm::ItemDefs, case: &Case, lookup: bool) -> usize {
+    oracle::run_match(defs, &case.line, &case.sheet, lookup).len()
+}
+
+/// How long `f` takes, in nanoseconds: calls enough for a sample, once.
+fn sample(calls: u32, f: &mut dyn FnMut()) -> f64 {
+    let start = Instant::now();
+    for _ in 0..calls {
+        f();
+    }
+    start.elapsed().as_nanos() as f64 / calls as f64
+}
+
+fn calls_for(f: &mut dyn FnMut()) -> u32 {
+    let mut calls = 1;
+    loop {
+        let start = Instant::now();
+        for _ in 0..calls {
+            f();
+        }
+        if start.elapsed() >= SAMPLE {
+            return calls;
+        }
+        calls *= 2;
+    }
+}
+
+/// The least time of each, sampled in turn so that a disturbance meets all alike. The first samples, which find out how many
+/// calls a sample has, also warm caches and the branch predictor, and are not counted.
+fn times(sides: &mut [&mut dyn FnMut()]) -> Vec<f64> {
+    let calls: Vec<u32> = sides.iter_mut().map(|f| calls_for(*f)).collect();
+    let mut least = vec![f64::INFINITY; sides.len()];
+    for _ in 0..SAMPLES {
+        for (i, f) in sides.iter_mut().enumerate() {
+            least[i] = least[i].min(sample(calls[i], *f));
+        }
+    }
+    least
+}
+
+/// The two sides must agree before they are timed.
+fn agree(case: &Case, lookup: bool, defs: &oracle::asm::ItemDefs) -> u32 {
+    let mut room = vec![0; ROOM];
+    let told = proved(case, lookup, BUDGET, &mut room);
+    let words = oracle::pack_answer(&oracle::run_match(defs, &case.line, &case.sheet, lookup));
+    assert!(
+        told.number <= 1 && words == room[..told.words as usize],
+        "{}",
+        case.name
+    );
+    told.visits
+}
+
+fn time_matching() {
+    println!("| case | way | visits | proved call | its checks | Rust | Rust from the table | Rust / call | per visit: proved | Rust | ratio |");
+    println!("|---|---|---|---|---|---|---|---|---|---|---|");
+    let mut room = vec![0; ROOM];
+    let mut room2 = vec![0; ROOM];
+    for case in cases::all() {
+        let defs = oracle::unpack_table(&case.table);
+        for lookup in [false, true] {
+            let visits = agree(&case, lookup, &defs) as f64;
+            let times = times(&mut [
+                &mut || {
+                    black_box(proved(black_box(&case), lookup, BUDGET, &mut room).visits);
+                },
+                &mut || {
+                    black_box(proved(black_box(&case), lookup, 0, &mut room2).number);
+                },
+                &mut || {
+                    black_box(oracle::run_match(black_box(&defs), &case.line, &case.sheet, lookup));
+                },
+                &mut || {
+                    let defs = oracle::unpack_table(black_box(&case.table));
+                    black_box(oracle::run_match(&defs, &case.line, &case.sheet, lookup));
+                },
+            ]);
+            let [call, checks, rust, from_table] = times[..] else {
+                unreachable!()
+            };
+            let own = (call - checks) / visits;
+            println!(
+                "| {} | {} | {visits} | {call:.0} | {checks:.0} | {rust:.0} | {from_table:.0} | {:.2} | {own:.1} | {:.1} | {:.1} |",
+                case.name,
+                if lookup { "lookup" } else { "scan" },
+                rust / call,
+                rust / visits,
+                rust / visits / own,
+            );
+        }
+    }
+}
+
+fn time_selection() {
+    println!("| outcomes | proved | Rust | Rust / proved |");
+    println!("|---|---|---|---|");
+    for count in [1, 2, 4, 16, 64, 256, 1024, 4096] {
+        let mut words = cases::outcomes(count);
+        let mut room = vec![0; count];
+        let mut outcomes = oracle::Outcomes::new(&words);
+        assert!(proved_select(&mut words, &mut room).number == outcomes.select(false).number);
+        let times = times(&mut [
+            &mut || {
+                black_box(proved_select(black_box(&mut words), &mut room).count);
+            },
+            &mut || {
+                black_box(outcomes.select(false).count);
+            },
+        ]);
+        println!(
+            "| {count} | {:.0} | {:.0} | {:.1} |",
+            times[0],
+            times[1],
+            times[1] / times[0]
+        );
+    }
+}
+
+/// Runs a case twice on one side; the second run is the one that is counted.
+fn once(name: &str, side: &str) {
+    let lookup = name.ends_with(" lookup");
+    let name = name.trim_end_matches(" lookup").trim_end_matches(" scan");
+    let case = cases::all().into_iter().find(|c| c.name == name).expect("no such case");
+    let defs = oracle::unpack_table(&case.table);
+    let mut room = vec![0; ROOM];
+    match side {
+        "proved" => {
+            proved(&case, lookup, BUDGET, &mut room);
+            black_box(counted_proved(&case, lookup, &mut room));
+        }
+        "checks" => {
+            proved(&case, lookup, 0, &mut room);
+            black_box(counted_checks(&case, lookup, &mut room));
+        }
+        _ => {
+            black_box(oracle::run_match(&defs, &case.line, &case.sheet, lookup));
+            black_box(counted_rust(&defs, &case, lookup));
+        }
+    }
+}
+
+fn main() {
+    let args: Vec<String> = std::env::args().skip(1).collect();
+    let args: Vec<&str> = args.iter().map(String::as_str).collect();
+    match args[..] {
+        [] => {
+            println!(
+                "Nanoseconds a call; the least of {SAMPLES} samples of at least {} ms.\n",
+                SAMPLE.as_millis()
+            );
+            time_matching();
+            println!();
+            time_selection();
+        }
+        ["--list"] => {
+            for case in cases::all() {
+                println!("{} scan\n{} lookup", case.name, case.name);
+            }
+        }
+        ["--once", name, side] => once(name, side),
+        _ => {
+            eprintln!("usage: bench [--list | --once NAME SIDE]");
+            std::process::exit(2);
+        }
+    }
+}

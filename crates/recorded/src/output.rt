@@ -1,0 +1,57 @@
+// Standard output: text, numbers, and what a call returned.
+use libc::STDOUT_FILENO;
+use tholdrimash::TholdrimashAnswer;
+use tholdrimash::TholdrimashSelection;
+
+pub fn say(text: &[u8]) {
+    io::write_all(STDOUT_FILENO, text);
+}
+
+// Writes a number after a space.
+fn put(n: u32) {
+    say(b" ");
+    io::print_decimal(STDOUT_FILENO, n as u64);
+}
+
+fn put_word(word: u16) {
+    put(word as u32);
+}
+
+// Writes the words of a buffer, all of them: those of the answer and those that it leaves.
+fn put_buffer(buffer: &[u16]) {
+    let mut i: usize = 0;
+    while i < buffer.len() {
+        put_word(buffer[i]);
+        i += 1;
+    }
+}
+
+fn put_list(list: &[u32]) {
+    let mut i: usize = 0;
+    while i < list.len() {
+        put(list[i]);
+        i += 1;
+    }
+}
+
+// Number, visits, words and place, then the buffer.
+pub fn tell(answer: TholdrimashAnswer, buffer: &[u16]) {
+    put(answer.number);
+    put(answer.visits);
+    put(answer.words);
+    put(answer.place);
+    say(b" |");
+    put_buffer(buffer);
+    say(b"\n");
+}
+
+// Number and count, then the outcome words and the buffer.
+pub fn tell_selection(selection: TholdrimashSelection, list: &[u32], buffer: &[u16]) {
+    put(selection.number);
+    put(selection.count);
+    say(b" |");
+    put_list(list);
+    say(b" |");
+    put_buffer(buffer);
+    say(b"\n");
+}

@@ -1,0 +1,152 @@
+//! Compares a walker's moves and cuts, and the rules that lookup tries, one by one: with the Rust where the cursor is at most
+//! the limit and that at most the line's length, and with the model everywhere.
+use crate::cases;
+use crate::model;
+use crate::random::Random;
+use crate::report::Report;
+use crate::sides::{self, Moves, Place, Walker};
+
+/// The walker held to its line, as document 01 says.
+fn held(line: &[u8], w: Walker) -> Walker {
+    let limit = w.limit.min(line.len());
+    Walker {
+        cursor: w.cursor.min(limit),
+        limit,
+    }
+}
+
+fn model_moves(line: &[u8], w: Walker, wanted: u8) -> Moves {
+    let useful = model::useful(line, w.cursor, w.limit);
+    let found = useful < w.limit && model::lowered(line[useful]) == model::lowered(wanted);
+    let is_over = w.cursor >= w.limit;
+    Moves {
+        is_over,
+        useful,
+        char: Place {
+            found: found as usize,
+            place: if found { useful + 1 } else { w.cursor },
+        },
+        whitespace: is_over || model::is_white(line[w.cursor]),
+        cut: model::cut(line, w.cursor, w.limit, wanted),
+    }
+}
+
+fn moves(report: &mut Report, line: &[u8], w: Walker, wanted: u8) {
+    let text = String::from_utf8_lossy(line);
+    let here = held(line, w);
+    let told = sides::proved_moves(line, w, wanted);
+    let expected = model_moves(line, here, wanted);
+    report.see("walker moves, cuts and tests against document 01", true);
+    if told != expected {
+        report.differ(format!(
+            "{text:?} {w:?} {wanted}: proved {told:?}, document 01 {expected:?}"
+        ));
+    }
+    // A byte 0 is found at the limit by the Rust (docs/DIFFERENCES.md); no line and no part has one.
+    if w == here && wanted != 0 {
+        let rust = sides::rust_moves(line, w, wanted);
+        report.see("walker moves, cuts and tests against the Rust", true);
+        report.see("  a cut found", told.cut.is_some());
+        if told != rust {
+            report.differ(format!("{text:?} {w:?} {wanted}: proved {told:?}, Rust {rust:?}"));
+        }
+    }
+}
+
+fn walkers(report: &mut Report, line: &[u8], w: Walker, end: usize) {
+    let here = held(line, w);
+    let limited = held(line, Walker { limit: end, ..here });
+    let told = sides::proved_walkers(line, w, end);
+    report.see("walkers held, and with another limit", true);
+    if told != (here, here.cursor, limited) {
+        report.differ(format!("{w:?} with limit {end}: proved {told:?}"));
+    }
+}
+
+/// Every line of at most four bytes out of letters in both cases, a sign, brackets and whitespace; every walker within it;
+/// every wanted byte among those.
+pub fn short_lines(report: &mut Report) {
+    let bytes = b"aA+(){} ";
+    for line in cases::all_up_to(bytes, 4) {
+        for limit in 0..=line.len() {
+            for cursor in 0..=limit {
+                for wanted in bytes {
+                    moves(report, &line, Walker { cursor, limit }, *wanted);
+                }
+            }
+        }
+    }
+}
+
+/// Longer lines, cursors and limits past their ends, any byte.
+pub fn random_lines(report: &mut Report, seed: u64, cases: u64) {
+    for number in 0..cases {
+        let random = &mut Random::new(seed ^ 0x6C69_6E65, number);
+        let alphabet: &[u8] = *random.pick(&[&b"ab+"[..], b"aA+-,() \t", b"a+(){} ", b"(){}[]+ "]);
+        let most = *random.pick(&[5, 20, 120]);
+        let n = random.between(0, most);
+        let line: Vec<u8> = (0..n).map(|_| *random.pick(alphabet)).collect();
+        let far = [n, n + 1, n + 2, 1 << 32, usize::MAX];
+        let place = |random: &mut Random| match random.below(4) {
+            0 => *random.pick(&far),
+            _ => random.between(0, n),
+        };
+        let w = Walker {
+            cursor: place(random),
+            limit: place(random),
+        };
+        let end = place(random);
+        walkers(report, &line, w, end);
+        moves(report, &line, w, *random.pick(alphabet));
+        moves(report, &line, held(&line, w), *random.pick(alphabet));
+    }
+}
+
+/// The rules to try, and their order. A table of every beginning of a line's first bytes, in some case, and of words near to
+/// them shows the line's prefix and each rule's.
+fn query(report: &mut Report, table: &[u16], line: &[u8]) {
+    let Some(read) = model::read_table(table) else {
+        return;
+    };
+    let told = sides::proved_query(table, line, read.rules.len());
+    let expected: Vec<u16> = model::order(&read, line, true).iter().map(|r| *r as u16).collect();
+    let rust = sides::rust_query(table, line);
+    let named = |r: &u16| {
+        let rule = &read.rules[*r as usize];
+        let length = model::rule_prefix(&rule.parts).len() as u16;
+        [length, rule.set as u16, rule.number as u16]
+    };
+    let names: Vec<[u16; 3]> = told.iter().map(named).collect();
+    report.see("prefix queries", true);
+    report.see("  with rules found", !told.is_empty());
+    if told != expected || names != rust {
+        report.differ(format!(
+            "query of {:?} in {table:?}: proved {names:?}, Rust {rust:?}, document 01 {expected:?}",
+            String::from_utf8_lossy(line)
+        ));
+    }
+}
+
+pub fn queries(report: &mut Report, seed: u64, cases: u64) {
+    // Every rule of at most 5 parts out of two letters and whitespace, against every line of those and a space.
+    let rules = cases::all_up_to(&[b'a' as u16, b'B' as u16, 256], 5);
+    let words = |rules: &[Vec<u16>]| {
+        let mut table = vec![1, rules.len() as u16, rules.iter().map(|r| r.len() as u16).sum(), 0];
+        let mut first = 0;
+        for rule in rules {
+            table.extend([0, first, rule.len() as u16]);
+            first += rule.len() as u16;
+        }
+        table.extend(rules.iter().flatten());
+        table
+    };
+    let table = words(&rules);
+    for line in cases::all_up_to(b"aAb ", 6) {
+        query(report, &table, &line);
+    }
+    for number in 0..cases {
+        let random = &mut Random::new(seed ^ 0x7072_6566, number);
+        let case = cases::make(random);
+        query(report, &case.call(None).table, &case.line);
+    }
+}

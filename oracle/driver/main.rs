@@ -1,0 +1,109 @@
+//! Compares the proved code with the Rust, in one process: walker moves and cuts, prefix queries, match calls by scan and by
+//! lookup, and selection. What the Rust does not decide is held to a third reading of document 01 (model.rs).
+//!
+//!     compare [--cases N] [--seed S] [--only ground|matching|selection] [--quick] [--record FOLDER]
+//!
+//! `--cases` is how many random cases of the seed are made; `--quick` leaves out the exhaustive short ones. `--record` writes
+//! the recorded sample (record.rs) and compares nothing. Ends with 1 if anything differs, 2 if it is used wrongly.
+mod cases;
+mod ground;
+mod matching;
+mod model;
+mod random;
+mod record;
+mod report;
+mod selection;
+mod sides;
+
+use report::Report;
+
+struct Args {
+    cases: u64,
+    seed: u64,
+    only: Option<String>,
+    quick: bool,
+    record: Option<String>,
+}
+
+fn args() -> Option<Args> {
+    let mut args = Args {
+        cases: 100_000,
+        seed: 1,
+        only: None,
+        quick: false,
+        record: None,
+    };
+    let mut words = std::env::args().skip(1);
+    while let Some(word) = words.next() {
+        match word.as_str() {
+            "--cases" => args.cases = words.next()?.parse().ok()?,
+            "--seed" => args.seed = words.next()?.parse().ok()?,
+            "--only" => args.only = Some(words.next()?),
+            "--quick" => args.quick = true,
+            "--record" => args.record = Some(words.next()?),
+            _ => return None,
+        }
+    }
+    Some(args)
+}
+
+fn ground(args: &Args) -> usize {
+    let report = &mut Report::default();
+    if !args.quick {
+        ground::short_lines(report);
+    }
+    ground::random_lines(report, args.seed, args.cases);
+    ground::queries(report, args.seed, args.cases / 10);
+    report.print("walkers, cuts, prefixes");
+    report.differences
+}
+
+fn matching(args: &Args) -> usize {
+    let report = &mut Report::default();
+    matching::numbers(report);
+    if !args.quick {
+        matching::short(report);
+    }
+    matching::random(report, args.seed, args.cases);
+    report.print("matching");
+    report.differences
+}
+
+fn selection(args: &Args) -> usize {
+    let report = &mut Report::default();
+    selection::numbers(report);
+    if !args.quick {
+        selection::short(report);
+    }
+    selection::random(report, args.seed, args.cases);
+    report.print("selection");
+    report.differences
+}
+
+fn main() {
+    let Some(args) = args() else {
+        eprintln!(
+            "usage: compare [--cases N] [--seed S] [--only ground|matching|selection] [--quick] [--record FOLDER]"
+        );
+        std::process::exit(2);
+    };
+    if let Some(folder) = &args.record {
+        record::write(folder).expect("the sample can't be written");
+        return;
+    }
+    // A copy of the Rust that panics is told apart by its result; the panic's own message says no more.
+    std::panic::set_hook(Box::new(|_| {}));
+    println!("seed {}, {} random cases", args.seed, args.cases);
+    let mut differences = 0;
+    for (name, part) in [
+        ("ground", ground as fn(&Args) -> usize),
+        ("matching", matching),
+        ("selection", selection),
+    ] {
+        if args.only.as_deref().map_or(true, |only| only == name) {
+            differences += part(&args);
+        }
+    }
+    println!("{differences} differences");
+    std::process::exit((differences > 0) as i32);
+}

@@ -1,0 +1,342 @@
+//! The two sides of the comparison, each behind safe functions: the proved code, by its C interface and by the C functions
+//! of the crate `probe`, and the Rust, by liboracle.so. All in this process.
+use crate::model::{Answer, Call, Chosen};
+
+/// What stands at each place of a lent buffer before a call. No answer word and no index is this.
+const UNTOUCHED: u16 = 65535;
+
+#[repr(C)]
+struct CAnswer {
+    number: u32,
+    visits: u32,
+    words: u32,
+    place: u32,
+}
+
+#[repr(C)]
+struct CSelection {
+    number: u32,
+    count: u32,
+}
+
+type CMatch =
+    unsafe extern "C" fn(*const u16, usize, *const u8, usize, *const u8, usize, u32, *mut u16, usize) -> CAnswer;
+
+/// A walker's cursor and limit.
+#[repr(C)]
+#[derive(Clone, Copy, Debug, PartialEq)]
+pub struct Walker {
+    pub cursor: usize,
+    pub limit: usize,
+}
+
+/// Whether something was found, 1 or 0, and a place.
+#[repr(C)]
+#[derive(Clone, Copy, Debug, PartialEq)]
+pub struct Place {
+    pub found: usize,
+    pub place: usize,
+}
+
+#[link(name = "tholdrimash", kind = "static")]
+extern "C" {
+    fn tholdrimash_match(
+        table: *const u16,
+        table_len: usize,
+        line: *const u8,
+        line_len: usize,
+        sheet: *const u8,
+        sheet_len: usize,
+        budget: u32,
+        answer: *mut u16,
+        answer_len: usize,
+    ) -> CAnswer;
+    fn tholdrimash_lookup(
+        table: *const u16,
+        table_len: usize,
+        line: *const u8,
+        line_len: usize,
+        sheet: *const u8,
+        sheet_len: usize,
+        budget: u32,
+        answer: *mut u16,
+        answer_len: usize,
+    ) -> CAnswer;
+    fn tholdrimash_select(
+        outcomes: *mut u32,
+        outcomes_len: usize,
+        last_pass: u32,
+        chosen: *mut u16,
+        chosen_len: usize,
+    ) -> CSelection;
+}
+
+#[link(name = "probe", kind = "static")]
+extern "C" {
+    fn probe_hold(line: *const u8, len: usize, cursor: usize, limit: usize) -> Walker;
+    fn probe_set_cursor_limit(line: *const u8, len: usize, cursor: usize, limit: usize, end: usize) -> Walker;
+    fn probe_is_over(line: *const u8, len: usize, cursor: usize, limit: usize) -> bool;
+    fn probe_next_useful_index(line: *const u8, len: usize, cursor: usize, limit: usize) -> usize;
+    fn probe_maybe_expect_char(line: *const u8, len: usize, cursor: usize, limit: usize, wanted: u8) -> Place;
+    fn probe_maybe_expect_whitespace(line: *const u8, len: usize, cursor: usize, limit: usize) -> Place;
+    fn probe_find_lookahead_char_index(line: *const u8, len: usize, cursor: usize, limit: usize, wanted: u8) -> Place;
+    fn probe_query_prefixed(
+        table: *const u16,
+        table_len: usize,
+        line: *const u8,
+        line_len: usize,
+        found: *mut u16,
+        found_len: usize,
+    ) -> usize;
+}
+
+#[repr(C)]
+#[derive(Clone, Copy, Default)]
+pub struct Seen {
+    pub parts: u64,
+    pub kept: u64,
+    pub completed: u64,
+}
+
+#[repr(C)]
+#[derive(Default)]
+struct CMoves {
+    is_over: u32,
+    useful: usize,
+    found: u32,
+    cursor: usize,
+    limit: usize,
+    whitespace: u32,
+    is_cut: u32,
+    cut: usize,
+}
+
+#[link(name = "oracle", kind = "dylib")]
+extern "C" {
+    fn oracle_match(
+        table: *const u16,
+        table_len: usize,
+        line: *const u8,
+        line_len: usize,
+        sheet: *const u8,
+        sheet_len: usize,
+        lookup: u32,
+        out: *mut u16,
+        out_len: usize,
+        seen: *mut Seen,
+    ) -> u32;
+    fn oracle_select(
+        words: *mut u32,
+        words_len: usize,
+        last_pass: u32,
+        out: *mut u16,
+        out_len: usize,
+        count: *mut u32,
+    ) -> u32;
+    fn oracle_moves(line: *const u8, len: usize, cursor: usize, limit: usize, wanted: u8, moves: *mut CMoves);
+    fn oracle_query(
+        table: *const u16,
+        table_len: usize,
+        line: *const u8,
+        line_len: usize,
+        out: *mut u16,
+        out_len: usize,
+    ) -> u32;
+}
+
+/// Returned by the oracle if the Rust panics.
+const PANICKED: u32 = u32::MAX;
+
+/// The most words that an answer of the Rust has here.
+const RUST_ROOM: usize = 70_000;
+
+thread_local! {
+    /// Kept from call to call: filling so much anew would cost more than the call.
+    static RUST_WORDS: std::cell::RefCell<Vec<u16>> = std::cell::RefCell::new(vec![0; RUST_ROOM]);
+}
+
+// Every unsafe call below lends slices by their own pointers and lengths.
+
+/// What a call of the proved matcher returned, and whether it left alone what it had to: the buffer after its answer, all of
+/// the buffer on a refusal.
+pub fn proved_match(call: &Call, lookup: bool) -> (Answer, bool) {
+    let run: CMatch = if lookup { tholdrimash_lookup } else { tholdrimash_match };
+    let mut buffer = vec![UNTOUCHED; call.room];
+    let told = unsafe {
+        run(
+            call.table.as_ptr(),
+            call.table.len(),
+            call.line.as_ptr(),
+            call.line.len(),
+            call.sheet.as_ptr(),
+            call.sheet.len(),
+            call.budget,
+            buffer.as_mut_ptr(),
+            buffer.len(),
+        )
+    };
+    let written = if told.number == 0 { told.words as usize } else { 0 };
+    let rest = buffer.split_off(written.min(buffer.len()));
+    let answer = Answer {
+        number: told.number,
+        visits: told.visits,
+        words: told.words,
+        place: told.place,
+        answer: buffer,
+    };
+    (answer, rest.iter().all(|w| *w == UNTOUCHED))
+}
+
+/// The Rust's answer words, none for no match, and what its calls showed. Nothing if it panicked.
+pub fn rust_match(call: &Call, lookup: bool) -> Option<(Vec<u16>, Seen)> {
+    let mut seen = Seen::default();
+    RUST_WORDS.with(|words| {
+        let words = &mut *words.borrow_mut();
+        let count = unsafe {
+            oracle_match(
+                call.table.as_ptr(),
+                call.table.len(),
+                call.line.as_ptr(),
+                call.line.len(),
+                call.sheet.as_ptr(),
+                call.sheet.len(),
+                lookup as u32,
+                words.as_mut_ptr(),
+                words.len(),
+                &mut seen,
+            )
+        };
+        if count == PANICKED {
+            return None;
+        }
+        Some((words[..count as usize].to_vec(), seen))
+    })
+}
+
+/// What a call of the proved selection returned, and whether it left the rest of the buffer alone.
+pub fn proved_select(words: &[u32], last: u32, room: usize) -> (Chosen, bool) {
+    let mut words = words.to_vec();
+    let mut buffer = vec![UNTOUCHED; room];
+    let told = unsafe { tholdrimash_select(words.as_mut_ptr(), words.len(), last, buffer.as_mut_ptr(), buffer.len()) };
+    let written = if told.number == 0 { told.count as usize } else { 0 };
+    let rest = buffer.split_off(written.min(buffer.len()));
+    let chosen = Chosen {
+        number: told.number,
+        count: told.count,
+        words,
+        chosen: buffer,
+    };
+    (chosen, rest.iter().all(|w| *w == UNTOUCHED))
+}
+
+/// The Rust's choice among outcomes of kinds 1 to 3. Nothing if it panicked.
+pub fn rust_select(words: &[u32], last: bool) -> Option<Chosen> {
+    let mut words = words.to_vec();
+    let mut buffer = vec![UNTOUCHED; words.len()];
+    let mut count = 0;
+    let number = unsafe {
+        oracle_select(
+            words.as_mut_ptr(),
+            words.len(),
+            last as u32,
+            buffer.as_mut_ptr(),
+            buffer.len(),
+            &mut count,
+        )
+    };
+    buffer.truncate(if number == 0 { count as usize } else { 0 });
+    let chosen = Chosen {
+        number,
+        count,
+        words,
+        chosen: buffer,
+    };
+    (number != PANICKED).then_some(chosen)
+}
+
+/// What each move of a walker does for one wanted byte.
+#[derive(Debug, PartialEq)]
+pub struct Moves {
+    pub is_over: bool,
+    pub useful: usize,
+    pub char: Place,
+    pub whitespace: bool,
+    pub cut: Option<usize>,
+}
+
+pub fn proved_moves(line: &[u8], w: Walker, wanted: u8) -> Moves {
+    let (at, len) = (line.as_ptr(), line.len());
+    unsafe {
+        let cut = probe_find_lookahead_char_index(at, len, w.cursor, w.limit, wanted);
+        Moves {
+            is_over: probe_is_over(at, len, w.cursor, w.limit),
+            useful: probe_next_useful_index(at, len, w.cursor, w.limit),
+            char: probe_maybe_expect_char(at, len, w.cursor, w.limit, wanted),
+            whitespace: probe_maybe_expect_whitespace(at, len, w.cursor, w.limit).found == 1,
+            cut: (cut.found == 1).then_some(cut.place),
+        }
+    }
+}
+
+/// The walker that the whitespace part's test hands back, and the one with another limit.
+pub fn proved_walkers(line: &[u8], w: Walker, end: usize) -> (Walker, usize, Walker) {
+    let (at, len) = (line.as_ptr(), line.len());
+    unsafe {
+        (
+            probe_hold(at, len, w.cursor, w.limit),
+            probe_maybe_expect_whitespace(at, len, w.cursor, w.limit).place,
+            probe_set_cursor_limit(at, len, w.cursor, w.limit, end),
+        )
+    }
+}
+
+pub fn rust_moves(line: &[u8], w: Walker, wanted: u8) -> Moves {
+    let mut moves = CMoves::default();
+    unsafe { oracle_moves(line.as_ptr(), line.len(), w.cursor, w.limit, wanted, &mut moves) };
+    assert_eq!(moves.limit, w.limit);
+    Moves {
+        is_over: moves.is_over != 0,
+        useful: moves.useful,
+        char: Place {
+            found: moves.found as usize,
+            place: moves.cursor,
+        },
+        whitespace: moves.whitespace != 0,
+        cut: (moves.is_cut != 0).then_some(moves.cut),
+    }
+}
+
+/// The rules that lookup tries, by their places among the table's records.
+pub fn proved_query(table: &[u16], line: &[u8], room: usize) -> Vec<u16> {
+    let mut found = vec![UNTOUCHED; room];
+    let count = unsafe {
+        probe_query_prefixed(
+            table.as_ptr(),
+            table.len(),
+            line.as_ptr(),
+            line.len(),
+            found.as_mut_ptr(),
+            found.len(),
+        )
+    };
+    assert!(found[count..].iter().all(|w| *w == UNTOUCHED));
+    found.truncate(count);
+    found
+}
+
+/// The same of the Rust: prefix length, ruleset and rule of each.
+pub fn rust_query(table: &[u16], line: &[u8]) -> Vec<[u16; 3]> {
+    let mut words = vec![0; 3 * 512];
+    let count = unsafe {
+        oracle_query(
+            table.as_ptr(),
+            table.len(),
+            line.as_ptr(),
+            line.len(),
+            words.as_mut_ptr(),
+            words.len(),
+        )
+    };
+    let rules = words.chunks(3).take(count as usize);
+    rules.map(|r| [r[0], r[1], r[2]]).collect()
+}

@@ -1,0 +1,64 @@
+//! Which readings a line has under a rule table, and which outcomes have the least known size.
+//!
+//! Safe functions over the matching core of customasm, carried over with a proof of every function.
+//! A call takes any slices, ends, and names each refusal. A refusal leaves what was lent unchanged,
+//! except that a tie on the last pass still marks guesses. Nothing is kept between calls, so any
+//! threads may call at once. A call takes at most some 128 KiB of stack.
+//!
+//! The core is proved; this crate is only tested.
+//!
+//! - [`match_line`] finds the readings with the greatest exact count, [`lookup_line`] the same ones
+//!   by prefix.
+//! - [`Readings::read`] reads the words that they write as trees.
+//! - [`select`] chooses the outcomes of least known size, and refuses a tie on the last pass.
+//!
+//! Two rules that overlap, `mov` with an expression and `mov` with a rule of ruleset 1, which is
+//! `p` or `q`. Both read the line `mov p`. The second has four exact bytes, `m`, `o`, `v` and the
+//! `p` within, the first only three:
+//!
+//! ```
+//! use tholdrimash::{match_line, Kind, Readings};
+//!
+//! # fn main() -> Result<(), Box<dyn std::error::Error>> {
+//! let table = [
+//!     2, 4, 12, // two rulesets, four rules, twelve parts
+//!     0, 1, // ruleset 0 is a top one, ruleset 1 is nested only
+//!     0, 0, 5, 0, 5, 5, 1, 10, 1, 1, 11, 1, // of each rule: ruleset, first part, part count
+//!     109, 111, 118, 256, 257, // m, o, v, whitespace, an expression
+//!     109, 111, 118, 256, 513, // m, o, v, whitespace, a rule of ruleset 1
+//!     112, 113, // p; q
+//! ];
+//! let line = b"mov p";
+//! let mut sheet = [255; 2 * 6 * 6]; // 2(n+1)^2 bytes for a line of n
+//! sheet[3 * 6 + 5] = 5; // a free parse from 3 under the limit 5 ends at 5
+//! let mut answer = [0; 64];
+//!
+//! let words = match_line(&table, line, &sheet, 1_000, &mut answer).written()?;
+//! assert_eq!(answer[..words], [1, 4, 0, 1, 1, 1, 4, 5, 1, 0, 0]);
+//!
+//! let readings = Readings::read(&answer[..words]).expect("a whole answer");
+//! assert_eq!(readings.count, 4);
+//! assert_eq!(readings.trees.len(), 1, "the line has one reading");
+//!
+//! let tree = &readings.trees[0];
+//! assert_eq!((tree.ruleset, tree.rule), (0, 1));
+//! let argument = &tree.arguments[0];
+//! assert_eq!(&line[argument.span.clone()], b"p");
+//! assert!(matches!(&argument.kind, Kind::Nested(inner) if inner.ruleset == 1));
+//! # Ok(())
+//! # }
+//! ```
+//!
+//! The crate links libtholdrimash.a, for x86-64 Linux. `rt staticlib tholdrimash` writes it, and
+//! THOLDRIMASH_LIB names its folder where that is not the repository's target/staticlib.
+#![deny(missing_docs, unsafe_code)]
+
+mod matcher;
+#[allow(unsafe_code)]
+mod raw;
+mod readings;
+mod resolver;
+
+pub use matcher::{lookup_line, match_line, Answer};
+pub use readings::{Argument, Kind, Readings, Tree};
+pub use resolver::{select, Pass, Selection};

@@ -1,0 +1,216 @@
+//! Matching: the full scan, prefix lookup, and what they answer.
+
+use crate::raw::{self, Order};
+use std::error::Error;
+use std::fmt;
+
+/// What matching returns: number 0, or the refusal.
+///
+/// [`written`](Answer::written) parts the two, so that a refusal is an error for `?`.
+#[must_use]
+#[derive(Clone, Copy, Debug, PartialEq, Eq, Hash)]
+pub enum Answer {
+    /// 0: the readings stand at the buffer's start, and the rest of it is unchanged.
+    Matched {
+        /// Visits made.
+        visits: u32,
+        /// Words written, for [`Readings::read`](crate::Readings::read).
+        words: usize,
+    },
+    /// 1: the line has no reading.
+    NoMatch {
+        /// Visits made.
+        visits: u32,
+    },
+    /// 2: the words are no table.
+    BadTable,
+    /// 3: the line is too long, has a byte that no line has, or ends in whitespace.
+    BadLine {
+        /// 120 if it is too long, else its first bad byte, else its last byte.
+        place: usize,
+    },
+    /// 4: the sheet's length is not that of a sheet for this line, or an entry is wrong.
+    BadSheet,
+    /// 5: the budget is not from 1 to 1,000,000.
+    BadBudget,
+    /// 6: the next visit would exceed the budget.
+    Spent {
+        /// Visits made, which are the budget.
+        visits: u32,
+    },
+    /// 7: a nested step would enter depth 17.
+    TooDeep {
+        /// Visits made so far.
+        visits: u32,
+    },
+    /// 8: the walk has filled its pool of 4,096 records, and one more is due.
+    PoolFull {
+        /// Visits made so far.
+        visits: u32,
+    },
+    /// 9: the answer is longer than the buffer.
+    TooLong {
+        /// Visits made.
+        visits: u32,
+        /// Words that the answer needs.
+        words: usize,
+    },
+}
+
+impl Answer {
+    /// Its number, 0 to 9, as in `include/tholdrimash.h`.
+    pub fn number(self) -> u32 {
+        match self {
+            Answer::Matched { .. } => 0,
+            Answer::NoMatch { .. } => 1,
+            Answer::BadTable => 2,
+            Answer::BadLine { .. } => 3,
+            Answer::BadSheet => 4,
+            Answer::BadBudget => 5,
+            Answer::Spent { .. } => 6,
+            Answer::TooDeep { .. } => 7,
+            Answer::PoolFull { .. } => 8,
+            Answer::TooLong { .. } => 9,
+        }
+    }
+
+    /// The visits made: 0 where the checks refused, since no walk began.
+    pub fn visits(self) -> u32 {
+        match self {
+            Answer::Matched { visits, .. }
+            | Answer::NoMatch { visits }
+            | Answer::Spent { visits }
+            | Answer::TooDeep { visits }
+            | Answer::PoolFull { visits }
+            | Answer::TooLong { visits, .. } => visits,
+            Answer::BadTable | Answer::BadLine { .. } | Answer::BadSheet | Answer::BadBudget => 0,
+        }
+    }
+
+    /// How many words were written, or the refusal as an error.
+    pub fn written(self) -> Result<usize, Answer> {
+        match self {
+            Answer::Matched { words, .. } => Ok(words),
+            refusal => Err(refusal),
+        }
+    }
+}
+
+impl fmt::Display for Answer {
+    fn fmt(&self, f: &mut fmt::Formatter<'_>) -> fmt::Result {
+        match self {
+            Answer::Matched { visits, words } => {
+                write!(f, "the line matches: {words} words, {visits} visits")
+            }
+            Answer::NoMatch { visits } => write!(f, "no rule matches the line ({visits} visits)"),
+            Answer::BadTable => write!(f, "the rule table is bad"),
+            Answer::BadLine { place: 120 } => write!(f, "the line is longer than 120 bytes"),
+            Answer::BadLine { place } => write!(f, "the line is bad at byte {place}"),
+            Answer::BadSheet => write!(f, "the extent sheet is bad"),
+            Answer::BadBudget => write!(f, "the budget is not from 1 to 1,000,000 visits"),
+            Answer::Spent { visits } => write!(f, "the budget of {visits} visits is spent"),
+            Answer::TooDeep { visits } => {
+                write!(f, "rulesets nest deeper than 16 ({visits} visits)")
+            }
+            Answer::PoolFull { visits } => {
+                write!(f, "more than 4,096 records are due ({visits} visits)")
+            }
+            Answer::TooLong { words, .. } => {
+                write!(f, "the answer needs a buffer of {words} words")
+            }
+        }
+    }
+}
+
+impl Error for Answer {}
+
+/// Finds the readings of a line with the greatest exact count: the full scan.
+///
+/// - `table`: S (1 to 32), R (0 to 512), P (0 to 8,192); S flags (0 top ruleset, 1 nested only);
+///   R records of ruleset, first part, part count, in nondecreasing ruleset order; P parts: 33 to
+///   126 except 59 (that byte, case ignored), 256 (whitespace), 257 (expression), 512 + r (a rule
+///   of ruleset r). A rule has at most 64 parts, at most 8 of them parameters; the part counts add
+///   up to at most P.
+/// - `line`: 0 to 120 bytes, each 9, 32 or 33 to 126 except 59. The last is no whitespace.
+/// - `sheet`: 2(n+1)^2 bytes for a line of n. Where a free parse from c under the limit l ends, at
+///   c(n+1)+l; then, in the second half, where a greedy decimal parse ends. 255 is none, else the
+///   end is from c to l. Entries with c above l may hold anything.
+/// - `budget`: how many visits the walk may make, 1 to 1,000,000.
+/// - `answer`: where the readings go. [`Readings`](crate::Readings) says how they are written.
+///
+/// The table, the line, the sheet and the budget are checked in this order.
+///
+/// ```
+/// use tholdrimash::{match_line, Answer};
+///
+/// let nop = [1, 1, 3, 0, 0, 0, 3, 110, 111, 112]; // one rule: n, o, p
+/// let sheet = [255; 2 * 4 * 4]; // no expression anywhere
+///
+/// // A buffer that is too short stays as it is. The answer says what it needs.
+/// let mut short = [7; 2];
+/// let told = match_line(&nop, b"NOP", &sheet, 100, &mut short);
+/// assert_eq!(told, Answer::TooLong { visits: 4, words: 5 });
+/// assert_eq!(short, [7, 7]);
+///
+/// // A budget that is too small names itself.
+/// let told = match_line(&nop, b"nop", &sheet, 3, &mut short);
+/// assert_eq!(told, Answer::Spent { visits: 3 });
+/// assert_eq!(told.number(), 6);
+/// assert_eq!(told.to_string(), "the budget of 3 visits is spent");
+///
+/// assert_eq!(match_line(&[], b"nop", &sheet, 100, &mut short), Answer::BadTable);
+/// ```
+pub fn match_line(
+    table: &[u16],
+    line: &[u8],
+    sheet: &[u8],
+    budget: u32,
+    answer: &mut [u16],
+) -> Answer {
+    told(raw::call(Order::Scan, table, line, sheet, budget, answer))
+}
+
+/// The same by prefix lookup: it tries only the rules that the line's first bytes lead to.
+///
+/// Whenever [`match_line`] is not refused by 6, 7 or 8, these are the same readings with no more
+/// visits. Their order may differ: by the length of the rule's prefix, then the table's order.
+///
+/// ```
+/// use tholdrimash::{lookup_line, match_line, Answer};
+///
+/// let nop = [1, 1, 3, 0, 0, 0, 3, 110, 111, 112];
+/// let sheet = [255; 2 * 4 * 4];
+///
+/// let scan = match_line(&nop, b"mov", &sheet, 100, &mut []);
+/// assert_eq!(scan, Answer::NoMatch { visits: 1 });
+/// let lookup = lookup_line(&nop, b"mov", &sheet, 100, &mut []);
+/// assert_eq!(lookup, Answer::NoMatch { visits: 0 });
+/// ```
+pub fn lookup_line(
+    table: &[u16],
+    line: &[u8],
+    sheet: &[u8],
+    budget: u32,
+    answer: &mut [u16],
+) -> Answer {
+    told(raw::call(Order::Lookup, table, line, sheet, budget, answer))
+}
+
+fn told(answer: raw::Answer) -> Answer {
+    let visits = answer.visits;
+    let words = answer.words as usize;
+    let place = answer.place as usize;
+    match answer.number {
+        0 => Answer::Matched { visits, words },
+        1 => Answer::NoMatch { visits },
+        2 => Answer::BadTable,
+        3 => Answer::BadLine { place },
+        4 => Answer::BadSheet,
+        5 => Answer::BadBudget,
+        6 => Answer::Spent { visits },
+        7 => Answer::TooDeep { visits },
+        8 => Answer::PoolFull { visits },
+        9 => Answer::TooLong { visits, words },
+        number => unreachable!("matching has no number {number}: another libtholdrimash.a?"),
+    }
+}

@@ -1,0 +1,105 @@
+//! The C interface as `include/tholdrimash.h` declares it, behind functions that take slices. All
+//! unsafe code of the crate is here.
+//!
+//! The C functions take any values in any memory that their pointers and lengths describe, and keep
+//! no pointer. What they write must overlap nothing else that is lent. A length of 0 asks for a
+//! pointer that is aligned and not null, as an empty slice's is.
+
+/// `tholdrimash_answer`.
+#[repr(C)]
+pub struct Answer {
+    pub number: u32,
+    pub visits: u32,
+    pub words: u32,
+    pub place: u32,
+}
+
+/// `tholdrimash_selection`.
+#[repr(C)]
+pub struct Selection {
+    pub number: u32,
+    pub count: u32,
+}
+
+/// Which rules a call tries: all top rules, or those that the line's prefixes lead to.
+pub enum Order {
+    Scan,
+    Lookup,
+}
+
+extern "C" {
+    fn tholdrimash_match(
+        table: *const u16,
+        table_len: usize,
+        line: *const u8,
+        line_len: usize,
+        sheet: *const u8,
+        sheet_len: usize,
+        budget: u32,
+        answer: *mut u16,
+        answer_len: usize,
+    ) -> Answer;
+
+    fn tholdrimash_lookup(
+        table: *const u16,
+        table_len: usize,
+        line: *const u8,
+        line_len: usize,
+        sheet: *const u8,
+        sheet_len: usize,
+        budget: u32,
+        answer: *mut u16,
+        answer_len: usize,
+    ) -> Answer;
+
+    fn tholdrimash_select(
+        outcomes: *mut u32,
+        outcomes_len: usize,
+        last_pass: u32,
+        chosen: *mut u16,
+        chosen_len: usize,
+    ) -> Selection;
+}
+
+pub fn call(
+    order: Order,
+    table: &[u16],
+    line: &[u8],
+    sheet: &[u8],
+    budget: u32,
+    answer: &mut [u16],
+) -> Answer {
+    let function = match order {
+        Order::Scan => tholdrimash_match,
+        Order::Lookup => tholdrimash_lookup,
+    };
+    // SAFETY: each pointer and length is a slice's own. Only `answer` is written, and it overlaps
+    // nothing, since it is borrowed to be changed.
+    unsafe {
+        function(
+            table.as_ptr(),
+            table.len(),
+            line.as_ptr(),
+            line.len(),
+            sheet.as_ptr(),
+            sheet.len(),
+            budget,
+            answer.as_mut_ptr(),
+            answer.len(),
+        )
+    }
+}
+
+pub fn select(outcomes: &mut [u32], last_pass: bool, chosen: &mut [u16]) -> Selection {
+    // SAFETY: each pointer and length is a slice's own. Both are borrowed to be changed, so they
+    // don't overlap.
+    unsafe {
+        tholdrimash_select(
+            outcomes.as_mut_ptr(),
+            outcomes.len(),
+            u32::from(last_pass),
+            chosen.as_mut_ptr(),
+            chosen.len(),
+        )
+    }
+}

@@ -1,0 +1,110 @@
+//! Calls on memory that is watched: what is lent to be read must stay, and so must the buffer after
+//! what was written, and what stands around each.
+
+use std::fmt::Debug;
+use tholdrimash::{lookup_line, match_line, select, Answer, Pass, Selection};
+
+/// Stands around what is lent, and in every place of a buffer.
+const FILLER: u16 = 0xA5C3;
+
+const AROUND: usize = 8;
+
+/// What a call is lent, with filler around it.
+struct Lent<T> {
+    all: Vec<T>,
+    before: Vec<T>,
+}
+
+impl<T: Copy + Debug + PartialEq> Lent<T> {
+    fn new(given: &[T], filler: T) -> Lent<T> {
+        let around = [filler; AROUND];
+        let all = [&around, given, &around].concat();
+        let before = all.clone();
+        Lent { all, before }
+    }
+
+    fn given(&mut self) -> &mut [T] {
+        let end = self.all.len() - AROUND;
+        &mut self.all[AROUND..end]
+    }
+
+    /// The first places, having seen that nothing else has changed.
+    fn changed(self, places: usize) -> Vec<T> {
+        let end = AROUND + places;
+        assert_eq!(self.all[..AROUND], self.before[..AROUND], "before them");
+        assert_eq!(self.all[end..], self.before[end..], "after the words");
+        self.all[AROUND..end].to_vec()
+    }
+
+    fn unchanged(self) {
+        assert_eq!(self.all, self.before);
+    }
+}
+
+fn buffer(room: usize) -> Lent<u16> {
+    Lent::new(&vec![FILLER; room], FILLER)
+}
+
+type Function = fn(&[u16], &[u8], &[u8], u32, &mut [u16]) -> Answer;
+
+/// What matching is given.
+#[derive(Clone, Copy)]
+pub struct Call<'a> {
+    pub table: &'a [u16],
+    pub line: &'a [u8],
+    pub sheet: &'a [u8],
+    pub budget: u32,
+    pub room: usize,
+}
+
+impl Call<'_> {
+    pub fn scan(self) -> (Answer, Vec<u16>) {
+        self.by(match_line)
+    }
+
+    pub fn lookup(self) -> (Answer, Vec<u16>) {
+        self.by(lookup_line)
+    }
+
+    /// The answer and the words written.
+    fn by(self, function: Function) -> (Answer, Vec<u16>) {
+        let mut table = Lent::new(self.table, FILLER);
+        let mut line = Lent::new(self.line, 0xA5);
+        let mut sheet = Lent::new(self.sheet, 0xA5);
+        let mut answer = buffer(self.room);
+        let told = function(
+            table.given(),
+            line.given(),
+            sheet.given(),
+            self.budget,
+            answer.given(),
+        );
+        table.unchanged();
+        line.unchanged();
+        sheet.unchanged();
+        (told, answer.changed(told.written().unwrap_or(0)))
+    }
+
+    /// What scan and lookup both give.
+    pub fn both(self) -> (Answer, Vec<u16>) {
+        let told = self.scan();
+        assert_eq!(told, self.lookup(), "scan and lookup");
+        told
+    }
+
+    /// Both give this refusal, by this number.
+    pub fn refused(self, number: u32, refusal: Answer) {
+        assert_eq!(self.both(), (refusal, vec![]));
+        assert_eq!(refusal.number(), number);
+        assert_eq!(refusal.written(), Err(refusal));
+    }
+}
+
+/// A selection: the answer, the outcomes after it and the indices written.
+pub fn selected(outcomes: &[u32], pass: Pass, room: usize) -> (Selection, Vec<u32>, Vec<u16>) {
+    let mut words = Lent::new(outcomes, u32::MAX);
+    let mut chosen = buffer(room);
+    let told = select(words.given(), pass, chosen.given());
+    let written = chosen.changed(told.written().unwrap_or(0));
+    (told, words.changed(outcomes.len()), written)
+}
