@@ -1,8 +1,10 @@
 /* The matching core of customasm, with a proof of every function. Link libtholdrimash.a (`rt staticlib tholdrimash`).
  *
  * Every function takes any memory that its pointers and lengths describe, ends, and refuses bad input by a number; a
- * refusal leaves what was lent unchanged, except that a tie (13) still marks guesses. No pointer is kept. A length of 0
- * asks for a pointer that is not null and aligned; nothing is read there.
+ * refusal leaves what was lent unchanged, except that a tie (13) still marks guesses. What a call writes to must overlap
+ * nothing else that it is lent. No pointer is kept, and there is no state between calls, so threads may call at once. A
+ * length of 0 asks for a pointer that is not null and aligned; nothing is read there. A call takes at most some 128 KiB of
+ * stack; that is measured, not proved.
  */
 #ifndef THOLDRIMASH_H
 #define THOLDRIMASH_H
@@ -51,8 +53,9 @@ typedef struct {
 /* The readings of a line with the greatest exact count: the full scan.
  *
  * table   16-bit words: S (1 to 32), R (0 to 512), P (0 to 8,192); S flags (0 top ruleset, 1 nested only); R records of
- *         ruleset, first part, part count, in nondecreasing ruleset order; P part words: 33 to 126 except 59 (that byte,
- *         case ignored), 256 (whitespace), 257 (expression), 512 + r (a rule of ruleset r).
+ *         ruleset, first part, part count, in nondecreasing ruleset order, at most 64 parts and 8 parameters each, the
+ *         part counts P together at most; P part words: 33 to 126 except 59 (that byte, case ignored), 256 (whitespace),
+ *         257 (expression), 512 + r (a rule of ruleset r). Expressions and nested rules are a rule's parameters.
  * line    0 to 120 bytes, each 9, 32 or 33 to 126 except 59; the last is no whitespace.
  * sheet   2(n+1)^2 bytes for a line of n: where a free parse from c under limit l ends, at c(n+1)+l, then where a greedy
  *         decimal parse ends; 255 for none, else from c to l. Entries with c above l may hold anything.

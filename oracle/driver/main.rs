@@ -91,8 +91,6 @@ fn main() {
         record::write(folder).expect("the sample can't be written");
         return;
     }
-    // A copy of the Rust that panics is told apart by its result; the panic's own message says no more.
-    std::panic::set_hook(Box::new(|_| {}));
     println!("seed {}, {} random cases", args.seed, args.cases);
     let mut differences = 0;
     for (name, part) in [

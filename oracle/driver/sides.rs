@@ -209,7 +209,9 @@ pub fn rust_match(call: &Call, lookup: bool) -> Option<(Vec<u16>, Seen)> {
         if count == PANICKED {
             return None;
         }
-        Some((words[..count as usize].to_vec(), seen))
+        // A wrong copy may have more words than any answer.
+        let count = words.len().min(count as usize);
+        Some((words[..count].to_vec(), seen))
     })
 }
 

@@ -6,14 +6,15 @@ use Prim.Native.Nat.{ℕ, suc, _+_, _*_, _-_, _≤_, _<_}
 use native.Mathlib.Numerals.{add-one}
 use native.Mathlib.Omega.{arith}
 use lib.Dec.{eqb, leb, ltb}
-use lib.ListN.{length}
+use lib.ListN.{length, take, length-map, length-take, length-drop}
 use borrow.Author.Tests.{ltb-true, ltb-false, leb-true, eqb-true, eqb-false, lt-ltb, le-ltb, le-leb, lt-leb, eq-eqb, ne-eqb}
 use Rattle.plain.specs.Choice.{select}
 use Rattle.plain.specs.Below.{everyBelow, sumBelow}
 use Rattle.plain.specs.Lists.{count}
+use Rattle.plain.proofs.Lists.{count-most}
 use Rattle.plain.proofs.Tests.{and-left, and-right, and-both}
 use Rattle.plain.proofs.Below.{every-fewer, every-fails}
-use Rattle.defs.specs.Table.{wordAt, rulesetsIn, recordsIn, partsIn, partsFrom, flagAt, rulesetAt, firstAt, countAt, partWordAt, partOf, ruleSpan, partsBetween, isParameter}
+use Rattle.defs.specs.Table.{wordAt, rulesetsIn, recordsIn, partsIn, partsFrom, flagAt, rulesetAt, firstAt, countAt, partWordAt, partOf, ruleFrom, ruleWords, ruleParts, ruleSpan, partsBetween, isParameter}
 use Rattle.defs.specs.Table.{inRange, sizesFit, lengthFits, rulesetBefore, rulesetFits, rangeFits, rangesFit, countsFit, parametersIn, isPart}
 use Rattle.defs.specs.declared.ruledef.Parts.{Parts}
 use Rattle.defs.proofs.Words.{parts-whole, parts-none, parts-next}
@@ -127,11 +128,16 @@ module _ (t : List ℕ) (at end w : ℕ) (below : at < end) (fits : end ≤ leng
   pub parameter-other : w ≤ 256 → parametersFrom t at end ≡ parametersFrom t (at + 1) end
   parameter-other h = parameters-next false (le-ltb 256 w h)
 
-pub few-parameters : (t : List ℕ) (i n : ℕ) → n ≡ parametersIn t i → n ≤ 8 → leb (parametersIn t i) 8 ≡ true
-few-parameters t i n e h = le-leb (parametersIn t i) 8 (omega arith)
+-- a rule has no more parameters than parts
+pub few-parts : (t : List ℕ) (i n : ℕ) → n ≡ countAt t i → n ≤ 8 → true ≡ leb (parametersIn t i) 8
+unfolding parametersIn ruleParts ruleWords
+few-parts t i n e h =
+    sym
+    (le-leb (parametersIn t i) 8
+    (omega (arith, count-most isParameter (ruleParts t i), length-map (ruleWords t i) partOf, length-drop (ruleFrom t i) (take (ruleFrom t i + countAt t i) t), length-take (ruleFrom t i + countAt t i) t)))
 
-pub many-parameters : (t : List ℕ) (i n : ℕ) → n ≡ parametersIn t i → 8 < n → leb (parametersIn t i) 8 ≡ false
-many-parameters t i n e h = lt-leb (parametersIn t i) 8 (omega arith)
+pub parameters-few : (t : List ℕ) (i n : ℕ) → n ≡ parametersIn t i → leb n 8 ≡ leb (parametersIn t i) 8
+parameters-few t i n e = ap (λ (m : ℕ). leb m 8) e
 
 -- ---- a part word
 

@@ -4,6 +4,7 @@
 ghost use mathlib.Core.Path.{_≡_};
 ghost use mathlib.Core.Bool.{true, _&&_};
 ghost use Prim.Native.Nat.{_+_, _≤_, _<_};
+ghost use lib.Dec.{leb};
 ghost use lib.ListN.{length};
 ghost use Rattle.defs.specs.Table.{wordAt, rulesetsIn, recordsIn, partsIn, partsFrom, fieldAt, rulesetAt, partOf, ruleSpan, parametersIn, isPart};
 ghost use Rattle.defs.specs.Table.{inRange, flagsFit, rulesetsFit, rangesFit, countsFit, parametersFit, partsFit, tableFits};
@@ -267,6 +268,16 @@ fn parameters_of(table: &[u16], rule: u16) -> usize
     count
 }
 
+// Whether a rule has at most 8 parameters. The parts of one that has no more parts than that need not be read for it.
+fn has_few_parameters(table: &[u16], rule: u16) -> bool
+    ensures { λ r. ⌜ r ≡ leb (parametersIn (now (table .entry)) rule) 8 ⌝ }
+{
+    if field(table, rule, COUNT) <= MOST_PARAMETERS {
+        return true;
+    }
+    parameters_of(table, rule) <= MOST_PARAMETERS
+}
+
 // At most 8 parameters a rule.
 fn parameters_fit(table: &[u16], rules: usize) -> bool
     requires { ⌜ rules ≡ recordsIn (now table) ⌝ }
@@ -275,7 +286,7 @@ fn parameters_fit(table: &[u16], rules: usize) -> bool
 {
     let mut rule: u16 = 0;
     while (rule as usize) < rules {
-        if MOST_PARAMETERS < parameters_of(table, rule) {
+        if !has_few_parameters(table, rule) {
             return false;
         }
         rule += 1;

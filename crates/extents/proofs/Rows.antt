@@ -1,12 +1,18 @@
 -- What the row's loop knows: limits below the row's start are not judged, so the loop begins at the start.
-use mathlib.Core.Path.{_≡_, ap, _∙_}
-use mathlib.Core.Bool.{Bool, true}
+use mathlib.Core.Path.{_≡_, refl, sym, ap, ap₂, _∙_}
+use mathlib.Core.Logic.{_⊎_, inl, inr}
+use mathlib.Core.Bool.{Bool, true, false, not, _&&_, _||_}
 use mathlib.Core.List.{List}
-use Prim.Native.Nat.{ℕ, _≤_}
-use borrow.Author.Tests.{lt-ltb, le-ltb}
+use Prim.Native.Nat.{ℕ, _+_, _≤_, _<_}
+use native.Mathlib.Decide.{ℕ-discrete}
+use native.Mathlib.Omega.{arith}
+use lib.Dec.{eqb, leb, ltb}
+use lib.ListN.{length, getD, set}
+use lib.Seq.{getD-set-same, getD-set-other}
+use borrow.Author.Tests.{lt-ltb, le-ltb, leb-true, leb-false}
 use Rattle.plain.specs.Below.{everyBelow}
-use Rattle.plain.proofs.Below.{every-all}
-use Rattle.plain.proofs.Tests.{or-left}
+use Rattle.plain.proofs.Below.{every-all, every-more}
+use Rattle.plain.proofs.Tests.{or-left, tested}
 use Rattle.extents.specs.Sheet.{entryAt, entryFits, fitsAt}
 use Rattle.extents.specs.declared.Half.{Half}
 
@@ -22,3 +28,44 @@ module _ (sheet : List ℕ) (n : ℕ) (half : Half) where
       r ≡ fitsAt sheet n half c l
   unfolding fitsAt
   judged {c} {l} from byte answer = answer ∙ ap (entryFits c l) byte ∙ rw (le-ltb l c from)
+
+  -- so what is said of its byte in bytes is said of its place
+  pub odd-here :
+      {c l e p q : ℕ} {r : Bool} → c ≤ l → p ≡ c → q ≡ l → e ≡ entryAt sheet n half c l → r ≡ not (entryFits p q e) →
+      r ≡ not (fitsAt sheet n half c l)
+  odd-here {e = e} from start limit byte answer = answer ∙ ap not (ap₂ (λ (x y : ℕ). entryFits x y e) start limit ∙ judged from byte refl)
+
+-- ---- as bytes, with no branch
+
+-- a test on bytes that joins nothing but comparisons: it holds exactly where an entry does not fit
+pub odd-is : (c l e : ℕ) → (not (eqb e 255) && (ltb e c || ltb l e)) ≡ not (entryFits c l e)
+unfolding entryFits
+odd-is c l e = go (eqb e 255) (tested (leb c e)) (tested (leb e l))
+  where
+    go : (t : Bool) → (leb c e ≡ true) ⊎ (leb c e ≡ false) → (leb e l ≡ true) ⊎ (leb e l ≡ false) → (not t && (ltb e c || ltb l e)) ≡ not (t || (leb c e && leb e l))
+    go true p q = refl
+    go false (inl p) (inl q) = rw (p, q, le-ltb e c (leb-true c e p), le-ltb l e (leb-true e l q))
+    go false (inl p) (inr q) = rw (p, q, le-ltb e c (leb-true c e p), lt-ltb l e (leb-false e l q))
+    go false (inr p) q = rw (p, lt-ltb e c (leb-false c e p))
+
+-- what is odd so far, with what is odd here
+pub odd-more : (i : ℕ) (f : ℕ → Bool) (odd here : Bool) → everyBelow i f ≡ not odd → here ≡ not (f i) → everyBelow (i + 1) f ≡ not (odd || here)
+odd-more i f odd here p q = every-more i f ∙ ap (λ (b : Bool). b && f i) p ∙ go odd (f i) here q
+  where
+    go : (o t h : Bool) → h ≡ not t → (not o && t) ≡ not (o || h)
+    go true t h e = refl
+    go false true h e = ap not (sym e)
+    go false false h e = ap not (sym e)
+
+pub none-odd : (n : ℕ) (f : ℕ → Bool) (i : ℕ) (odd : Bool) → i ≡ n → everyBelow i f ≡ not odd → not odd ≡ everyBelow n f
+none-odd n f i odd e p = sym p ∙ ap (λ (m : ℕ). everyBelow m f) e
+
+-- ---- the places of the longest line
+
+-- a list that holds the places below one, after that one is put at itself
+pub held-more : (list : List ℕ) (p : ℕ) → p < length list → ((i : ℕ) → i < p → getD list i 0 ≡ i) → (i : ℕ) → i < p + 1 → getD (set list p p) i 0 ≡ i
+held-more list p h f i below =
+    elim (ℕ-discrete i p) [
+      | yes e ↦ ap (λ (k : ℕ). getD (set list p p) k 0) e ∙ getD-set-same list p p 0 h ∙ sym e
+      | no d ↦ getD-set-other list p i p 0 d ∙ f i (omega (arith, d))
+    ]

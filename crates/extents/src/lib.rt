@@ -2,8 +2,9 @@
 // decimal parse end. It is added by the port and carries over no Rust file: the Rust's expression parsers stand behind it.
 // `check_sheet` refuses a sheet of the wrong length or with a wrong entry (number 4); the readers answer on every input.
 ghost use mathlib.Core.Path.{_≡_};
-ghost use mathlib.Core.Bool.{true};
-ghost use Rattle.extents.specs.Sheet.{sized, Within, entryAt, entryFits, rowFits, halfFits, sheetFits};
+ghost use mathlib.Core.Bool.{true, not};
+ghost use Prim.Native.Nat.{_≤_};
+ghost use Rattle.extents.specs.Sheet.{sized, Within, entryAt, entryFits, rowFits, halfFits, sheetFits, HeldPlaces};
 ghost use Rattle.extents.specs.Sheet.{entryEnd, endIn, freeEnd, greedyEnd, endOf};
 
 // An entry's byte that says: no expression here.
@@ -14,6 +15,11 @@ const HALVES: usize = 2;
 
 // No slice is as long as the sheet of a line of 2^31 bytes.
 const TOO_LONG: usize = 0x8000_0000;
+
+// Document 01's longest line.
+const LONGEST: u8 = 120;
+
+const PLACES: usize = 121;
 
 // The sheet's halves, in their order. Public, since the definitions and laws that other crates cite speak of it.
 pub enum Half {
@@ -65,11 +71,57 @@ fn entry_fits(c: usize, l: usize, e: u8) -> bool
     end <= l
 }
 
-// Whether the entries of a half for start c fit, at every limit from c on.
-fn row_fits(sheet: &[u8], n: usize, half: Half, c: usize) -> bool
+// The places of the longest line, each as a byte.
+fn held_places() -> [u8; PLACES]
+    ensures held { λ r. ⌜ HeldPlaces r ⌝ }
+{
+    let mut list = [0u8; PLACES];
+    let mut place: u8 = 0;
+    while place <= LONGEST {
+        let at = place as usize;
+        list[at] = place;
+        place += 1;
+    }
+    list
+}
+
+// Whether an entry is neither 255 nor from its start to its limit. It has no branch, so that many are tried at once.
+fn is_odd(c: u8, l: u8, e: u8) -> bool
+    ensures odd { λ r. ⌜ r ≡ not (entryFits c l e) ⌝ }
+{
+    (e != NONE) & ((e < c) | (l < e))
+}
+
+// As `row_fits`, for a line that is not too long: starts, limits and entries are compared as bytes, and no entry ends the
+// loop, so that the compiler has one instruction for sixteen of them.
+fn short_row_fits(sheet: &[u8], places: &[u8], n: usize, half: Half, c: usize) -> bool
     requires size { ⌜ sized (now sheet) n ≡ true ⌝ }
+    requires held { ⌜ HeldPlaces (now places) ⌝ }
+    requires short { ⌜ n ≤ 120 ⌝ }
+    requires start { ⌜ c ≤ n ⌝ }
     ensures fits { λ r. ⌜ r ≡ rowFits (now (sheet .entry)) n half c ⌝ }
 {
+    let start = places[c];
+    let end = n + 1;
+    let mut odd = false;
+    let mut l: usize = c;
+    while l < end {
+        odd = odd | is_odd(start, places[l], entry(sheet, n, half, c, l));
+        l += 1;
+    }
+    !odd
+}
+
+// Whether the entries of a half for start c fit, at every limit from c on.
+fn row_fits(sheet: &[u8], places: &[u8], n: usize, half: Half, c: usize) -> bool
+    requires size { ⌜ sized (now sheet) n ≡ true ⌝ }
+    requires held { ⌜ HeldPlaces (now places) ⌝ }
+    requires start { ⌜ c ≤ n ⌝ }
+    ensures fits { λ r. ⌜ r ≡ rowFits (now (sheet .entry)) n half c ⌝ }
+{
+    if n <= LONGEST as usize {
+        return short_row_fits(sheet, places, n, half, c);
+    }
     let mut l = c;
     while l <= n {
         if !entry_fits(c, l, entry(sheet, n, half, c, l)) {
@@ -81,13 +133,14 @@ fn row_fits(sheet: &[u8], n: usize, half: Half, c: usize) -> bool
 }
 
 // Whether the entries of a half fit, at every start.
-fn half_fits(sheet: &[u8], n: usize, half: Half) -> bool
+fn half_fits(sheet: &[u8], places: &[u8], n: usize, half: Half) -> bool
     requires size { ⌜ sized (now sheet) n ≡ true ⌝ }
+    requires held { ⌜ HeldPlaces (now places) ⌝ }
     ensures fits { λ r. ⌜ r ≡ halfFits (now (sheet .entry)) n half ⌝ }
 {
     let mut c = 0;
     while c <= n {
-        if !row_fits(sheet, n, half, c) {
+        if !row_fits(sheet, places, n, half, c) {
             return false;
         }
         c += 1;
@@ -103,10 +156,11 @@ pub fn check_sheet(sheet: &[u8], n: usize) -> bool
     if !is_sized(sheet, n) {
         return false;
     }
-    if !half_fits(sheet, n, Half::Free) {
+    let places = held_places();
+    if !half_fits(sheet, &places, n, Half::Free) {
         return false;
     }
-    half_fits(sheet, n, Half::Greedy)
+    half_fits(sheet, &places, n, Half::Greedy)
 }
 
 // The end that an entry gives: 255 for none.

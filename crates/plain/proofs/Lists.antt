@@ -53,6 +53,15 @@ module _ {A : Type 0} (f : A → Bool) where
       go true h = refl
       go false h = h
 
+  pub count-most : (xs : List A) → count f xs ≤ length xs
+  unfolding count
+  count-most [] = omega arith
+  count-most (x ∷ xs) = go (f x) (count-most xs)
+    where
+      go : (b : Bool) → count f xs ≤ length xs → select b (suc (count f xs)) (count f xs) ≤ suc (length xs)
+      go true h = omega arith
+      go false h = omega arith
+
   pub count-append : (xs ys : List A) → count f (xs ++ ys) ≡ count f xs + count f ys
   unfolding count
   count-append [] ys = omega arith

@@ -3,7 +3,7 @@ use mathlib.Core.Path.{_≡_, refl, sym, ap, _∙_}
 use mathlib.Core.Logic.{_⊎_, inl, inr}
 use mathlib.Core.Bool.{Bool, true, false, _&&_}
 use mathlib.Core.List.{map}
-use Prim.Native.Nat.{ℕ, _+_, _-_, _/_, _%_, _<_, _≤_}
+use Prim.Native.Nat.{ℕ, _+_, _/_, _%_, _<_, _≤_}
 use native.Mathlib.Nat.{zero-add}
 use native.Mathlib.Omega.{arith}
 use lib.Dec.{eqb, leb}
@@ -75,22 +75,25 @@ partner b = go (leb 65 b && leb b 90) refl
     go false e = inl refl
 
 -- So two bytes with one partner are the same, or 32 apart, and then the greater is no capital.
-module _ (a b : ℕ) (less : a < b) where
-  near : (p q : ℕ) → Partner a p → Partner b q → p ≡ q → (b - a ≡ 32) × (q ≡ b)
-  near p q (inl x) (inl y) e = absurd (omega (arith, e, x, y, less))
-  near p q (inl x) (inr y) e = absurd (omega (arith, e, x, y .0, less))
-  near p q (inr x) (inl y) e = (omega (arith, e, x .0, y, less), y)
-  near p q (inr x) (inr y) e = absurd (omega (arith, e, x .0, y .0, less))
+module _ (a b : ℕ) where
+  apart : (p q : ℕ) → Partner a p → Partner b q → p ≡ q → (a ≡ b → ⊥) → (a + 32 ≡ b → ⊥) → b + 32 ≡ a
+  apart p q (inl x) (inl y) e n m = absurd (n (omega (arith, e, x, y)))
+  apart p q (inl x) (inr y) e n m = omega (arith, e, x, y .0)
+  apart p q (inr x) (inl y) e n m = absurd (m (omega (arith, e, x .0, y)))
+  apart p q (inr x) (inr y) e n m = absurd (n (omega (arith, e, x .0, y .0)))
 
-  pub letters-apart : (b - a ≡ 32 → ⊥) → false ≡ sameLetter a b
-  letters-apart n = sym (ne-eqb (lowered a) (lowered b) (λ e. n (near (lowered a) (lowered b) (partner a) (partner b) e .0)))
+  pub letters-apart : (a ≡ b → ⊥) → (a + 32 ≡ b → ⊥) → (b + 32 ≡ a → ⊥) → false ≡ sameLetter a b
+  letters-apart n m k =
+      sym (ne-eqb (lowered a) (lowered b) (λ e. k (apart (lowered a) (lowered b) (partner a) (partner b) e n m)))
 
-  same-or-not : (p q : ℕ) → Partner a p → Partner b q → b - a ≡ 32 → eqb p b ≡ eqb p q
+  same-or-not : (p q : ℕ) → Partner a p → Partner b q → a + 32 ≡ b → eqb p b ≡ eqb p q
   same-or-not p q x (inl y) d = ap (eqb p) (sym y)
-  same-or-not p q (inl x) (inr y) d = ne-eqb p b (λ e. omega (arith, e, x, less)) ∙ sym (ne-eqb p q (λ e. omega (arith, e, x, y .0, less)))
-  same-or-not p q (inr x) (inr y) d = absurd (omega (arith, d, x .1, y .2, less))
+  same-or-not p q (inl x) (inr y) d =
+      ne-eqb p b (λ e. omega (arith, e, x, d)) ∙ sym (ne-eqb p q (λ e. omega (arith, e, x, y .0, d)))
+  same-or-not p q (inr x) (inr y) d = absurd (omega (arith, d, x .1, y .2))
 
-  pub letters-near : b - a ≡ 32 → (r : ℕ) → r ≡ lowered a → eqb r b ≡ sameLetter a b
+  -- the partner of the lesser decides
+  pub letters-near : a + 32 ≡ b → (r : ℕ) → r ≡ lowered a → eqb r b ≡ sameLetter a b
   letters-near d r e = ap (λ (n : ℕ). eqb n b) e ∙ same-or-not (lowered a) (lowered b) (partner a) (partner b) d
 
 pub letters-swap : (a b : ℕ) → sameLetter b a ≡ sameLetter a b
@@ -100,5 +103,5 @@ letters-swap a b = go (tested (sameLetter a b))
     go (inl e) = eq-eqb (lowered b) (lowered a) (sym (eqb-true (lowered a) (lowered b) e)) ∙ sym e
     go (inr e) = ne-eqb (lowered b) (lowered a) (λ q. eqb-false (lowered a) (lowered b) e (sym q)) ∙ sym e
 
-pub letters-equal : (a b : ℕ) → b ≤ a → a ≤ b → true ≡ sameLetter a b
-letters-equal a b h k = sym (eq-eqb (lowered a) (lowered b) (ap lowered (omega (arith, h, k))))
+pub letters-equal : (a b : ℕ) → a ≡ b → true ≡ sameLetter a b
+letters-equal a b e = sym (eq-eqb (lowered a) (lowered b) (ap lowered e))

@@ -2,7 +2,6 @@
 // From `src/syntax/token.rs` of the Rust, whose `is_whitespace` is not in the published text: document 01
 // says what it is. Total: every byte has a class, and nothing is refused.
 ghost use mathlib.Core.Path.{_≡_};
-ghost use Prim.Native.Nat.{_<_};
 ghost use Rattle.syntax.specs.Token.{classOf, isWhitespace, lowered, sameLetter};
 
 // The lower-case partner of each byte, and 256 times its kind: 1 whitespace, 2 `(`, 3 `)`, 4 `{`, 5 `}`, else 0.
@@ -278,7 +277,7 @@ const FIRST_CAPITAL: u8 = 65;
 const LAST_CAPITAL: u8 = 90;
 
 // How far a capital's partner stands above it.
-const STEP: u8 = 32;
+const STEP: u16 = 32;
 
 fn class(b: u8) -> u16
     ensures { λ r. ⌜ r ≡ classOf b ⌝ }
@@ -310,26 +309,18 @@ pub fn to_ascii_lowercase(b: u8) -> u8
     (class(b) % PARTNERS) as u8
 }
 
-// Whether two bytes are the same, ASCII case ignored.
+// Whether two bytes are the same, ASCII case ignored: equal, or a capital and its partner.
 pub fn eq_ignore_ascii_case(a: u8, b: u8) -> bool
     ensures answers { λ r. ⌜ r ≡ sameLetter a b ⌝ }
 {
-    if a < b {
-        return is_capital_of(a, b);
+    if a == b {
+        return true;
     }
-    if b < a {
-        return is_capital_of(b, a);
+    if a as u16 + STEP == b as u16 {
+        return to_ascii_lowercase(a) == b;
     }
-    true
-}
-
-// Of two bytes that differ, only a capital and its partner are the same.
-fn is_capital_of(lesser: u8, greater: u8) -> bool
-    requires { ⌜ lesser < greater ⌝ }
-    ensures { λ r. ⌜ r ≡ sameLetter lesser greater ⌝ }
-{
-    if greater - lesser != STEP {
-        return false;
+    if b as u16 + STEP == a as u16 {
+        return to_ascii_lowercase(b) == a;
     }
-    to_ascii_lowercase(lesser) == greater
+    false
 }

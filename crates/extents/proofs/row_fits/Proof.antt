@@ -5,60 +5,55 @@ use mathlib.Core.Bool.{true}
 use Prim.Native.Nat.{_+_, _-_, _≤_}
 use native.Mathlib.Omega.{arith}
 use borrow.Author.Needs.{needs}
-use denote.Ref.{now}
 use Rattle.plain.specs.Below.{everyBelow}
-use Rattle.plain.proofs.Below.{every-step, every-fails}
-use Rattle.extents.specs.Sheet.{fitsAt, rowFits}
+use Rattle.plain.proofs.Below.{every-step, every-fails, every-fewer}
 use Rattle.plain.proofs.Calls.{refused, passed}
-use Rattle.plain.proofs.Below.{every-fewer}
+use Rattle.extents.specs.Sheet.{fitsAt, rowFits}
 use Rattle.extents.proofs.Rows.{none-judged, judged}
 use Rattle.extents.proofs.Size.{longer}
 use Rattle.extents.proofs.row_fits.Statement.{statement}
 use Rattle.extents.proofs.row_fits.Tie as tie
 
 abbrev Inv-loop : tie.InvT-loop
-Inv-loop sheet n half c l₀ l = (c ≤ l) × (everyBelow l (fitsAt sheet n half c) ≡ true)
+Inv-loop sheet places n half c l₀ l = (c ≤ l) × (everyBelow l (fitsAt sheet n half c) ≡ true)
 
 abbrev μ-loop : tie.MeasureT-loop
-μ-loop sheet n half c l₀ l = n + 1 - l
+μ-loop sheet places n half c l₀ l = n + 1 - l
 
--- the answer on the entry is whether it fits at its place
-judgement :
-    (c : tie.After-entry-fits Inv-loop μ-loop) →
-    let at = c .before .before .before in
-    let given = at .before .before .args in
-    c .entry-fits .result ≡ fitsAt (now (given .sheet)) (given .n) (given .half) (given .c) (at .loop .l)
-judgement c = judged _ _ _ (c .before .before .before .loop .inv .0) (c .before .entry .ensures) (c .entry-fits .ensures)
+cast-if1 : tie.Need-cast-if1 Inv-loop μ-loop
+cast-if1 c = search needs
+
+short-row-fits-requires : tie.Need-short-row-fits-requires Inv-loop μ-loop
+short-row-fits-requires c κs = (c .before .before .before .pre .0, (c .before .before .before .pre .1 .0, (omega (arith, c .if1 .taken), c .before .before .before .pre .1 .1)))
+
+returns : tie.Need-returns Inv-loop μ-loop
+returns c = c .short-row-fits .ensures
 
 loop-holds : tie.Need-loop-holds Inv-loop μ-loop
 loop-holds c = (omega arith, none-judged _ _ _ _)
 
 entry-requires : tie.Need-entry-requires Inv-loop μ-loop
-entry-requires c κs = record { size = c .before .before .before .pre; start = omega arith; limit = omega arith }
+entry-requires c κs = record { size = c .before .before .before .before .before .pre .0; start = c .before .before .before .before .before .pre .1 .1; limit = omega (arith, c .loop-test .taken) }
 
 entry-fits-requires : tie.Need-entry-fits-requires Inv-loop μ-loop
 entry-fits-requires c κs = search needs
 
-returns : tie.Need-returns Inv-loop μ-loop
-unfolding rowFits
-returns c =
-    sym (every-fails _ _ (c .before .before .before .before .loop .l) (omega arith)
-    (refused (judgement (c .before)) (c .if1 .taken)))
-
-add-l : tie.Need-add-l Inv-loop μ-loop
-add-l c = omega (arith, longer _ _ (c .before .before .before .before .before .before .pre))
-
-loop-less : tie.Need-loop-less Inv-loop μ-loop
-loop-less c = omega arith
-
-loop-again : tie.Need-loop-again Inv-loop μ-loop
-loop-again c =
-    let next = passed (judgement (c .before)) (c .if1 .left) in
-    (omega arith, every-step _ _ (c .before .before .before .before .loop .inv .1) next)
-
 returns-2 : tie.Need-returns-2 Inv-loop μ-loop
 unfolding rowFits
-returns-2 c = sym (every-fewer _ _ _ (omega arith) (c .before .loop .inv .1))
+returns-2 c = sym (every-fails _ _ (c .before .before .before .before .loop .l) (omega (arith, c .before .before .before .loop-test .taken)) (refused (judged _ _ _ (c .before .before .before .before .loop .inv .0) (c .before .before .entry .ensures) (c .before .entry-fits .ensures)) (c .if2 .taken)))
+
+add-l : tie.Need-add-l Inv-loop μ-loop
+add-l c = omega (arith, longer _ _ (c .before .before .before .before .before .before .before .before .pre .0), c .before .before .before .loop-test .taken)
+
+loop-less : tie.Need-loop-less Inv-loop μ-loop
+loop-less c = omega (arith, c .before .before .before .loop-test .taken)
+
+loop-again : tie.Need-loop-again Inv-loop μ-loop
+loop-again c = (omega (arith, c .before .before .before .before .loop .inv .0), every-step _ _ (c .before .before .before .before .loop .inv .1) (passed (judged _ _ _ (c .before .before .before .before .loop .inv .0) (c .before .before .entry .ensures) (c .before .entry-fits .ensures)) (c .if2 .left)))
+
+returns-3 : tie.Need-returns-3 Inv-loop μ-loop
+unfolding rowFits
+returns-3 c = sym (every-fewer _ _ _ (omega (arith, c .loop-test .left)) (c .before .loop .inv .1))
 
 pub row-fits-spec : {M : Type 1} → statement M
 row-fits-spec =
@@ -66,11 +61,14 @@ row-fits-spec =
     (tie.spec
     Inv-loop
     μ-loop
+    cast-if1
+    short-row-fits-requires
+    returns
     loop-holds
     entry-requires
     entry-fits-requires
-    returns
+    returns-2
     add-l
     loop-less
     loop-again
-    returns-2)
+    returns-3)

@@ -1,14 +1,15 @@
 -- The loop's invariant: every rule passed has at most 8 parameters.
 use borrow.Author.Needs.{needs}
-use mathlib.Core.Path.{_≡_, ap, _∙_}
+use mathlib.Core.Path.{_≡_}
 use mathlib.Core.Bool.{true}
 use Prim.Native.Nat.{ℕ, _-_, _≤_}
 use native.Mathlib.Omega.{arith}
 use lib.Dec.{leb}
 use Rattle.plain.specs.Below.{everyBelow}
 use Rattle.plain.proofs.Below.{every-none, every-step}
+use Rattle.plain.proofs.Calls.{refused, passed}
 use Rattle.defs.specs.Table.{parametersIn, parametersFit}
-use Rattle.defs.proofs.Check.{all-passed, one-failed, few-parameters, many-parameters}
+use Rattle.defs.proofs.Check.{all-passed, one-failed}
 use Rattle.defs.proofs.ruledef.parameters_fit.Statement.{statement}
 use Rattle.defs.proofs.ruledef.parameters_fit.Tie as tie
 
@@ -24,12 +25,12 @@ loop-holds c = (every-none _, omega arith)
 cast-loop : tie.Need-cast-loop Inv-loop μ-loop
 cast-loop c = omega arith
 
-parameters-of-requires : tie.Need-parameters-of-requires Inv-loop μ-loop
-parameters-of-requires c κs = search needs
+has-few-parameters-requires : tie.Need-has-few-parameters-requires Inv-loop μ-loop
+has-few-parameters-requires c κs = search needs
 
 returns : tie.Need-returns Inv-loop μ-loop
 unfolding parametersFit
-returns c = one-failed _ _ _ (omega arith) (many-parameters _ _ _ (c .before .parameters-of .ensures) (c .if1 .taken))
+returns c = one-failed _ _ _ (omega arith) (refused (c .before .has-few-parameters .ensures) (c .if1 .taken))
 
 add-rule : tie.Need-add-rule Inv-loop μ-loop
 add-rule c = search needs
@@ -38,7 +39,7 @@ loop-less : tie.Need-loop-less Inv-loop μ-loop
 loop-less c = search needs
 
 loop-again : tie.Need-loop-again Inv-loop μ-loop
-loop-again c = (every-step _ _ (c .before .before .before .loop .inv .0) (few-parameters _ _ _ (c .before .parameters-of .ensures) (c .if1 .left)), omega arith)
+loop-again c = (every-step _ _ (c .before .before .before .loop .inv .0) (passed (c .before .has-few-parameters .ensures) (c .if1 .left)), omega arith)
 
 returns-2 : tie.Need-returns-2 Inv-loop μ-loop
 unfolding parametersFit
@@ -52,7 +53,7 @@ parameters-fit-spec =
     μ-loop
     loop-holds
     cast-loop
-    parameters-of-requires
+    has-few-parameters-requires
     returns
     add-rule
     loop-less
