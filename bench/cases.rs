@@ -1,32 +1,13 @@
 //! The inputs: rule tables as a house would write them, by size and by kind, with a short and a long line for each.
 
+use crate::notation::rule;
+
+#[derive(Clone)]
 pub struct Case {
     pub name: String,
     pub table: Vec<u16>,
     pub line: Vec<u8>,
     pub sheet: Vec<u8>,
-}
-
-/// A rule from its text: a space is whitespace, `{}` an expression, `{1}` a rule of ruleset 1, another byte itself.
-fn rule(text: &str) -> Vec<u16> {
-    let mut parts = Vec::new();
-    let mut rest = text.as_bytes();
-    while let [first, after @ ..] = rest {
-        rest = after;
-        parts.push(match (first, after) {
-            (b' ', _) => 256,
-            (b'{', [b'}', after @ ..]) => {
-                rest = after;
-                257
-            }
-            (b'{', [digit, b'}', after @ ..]) => {
-                rest = after;
-                512 + (digit - b'0') as u16
-            }
-            _ => *first as u16,
-        });
-    }
-    parts
 }
 
 /// A packed table. The first ruleset is the top one.

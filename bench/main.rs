@@ -4,6 +4,8 @@
 //!     bench --list              prints the cases' names
 //!     bench --once NAME SIDE    runs one case once on one side, for a count of instructions: `proved`, `checks` or `rust`
 mod cases;
+#[path = "../oracle/driver/notation.rs"]
+mod notation;
 
 use cases::Case;
 use std::hint::black_box;
@@ -12,8 +14,9 @@ use std::time::{Duration, Instant};
 const BUDGET: u32 = 1_000_000;
 const ROOM: usize = 4096;
 
-/// Samples of each side, taken in turn; the least counts.
-const SAMPLES: usize = 15;
+/// Rounds over all cases, and samples of each side in a round, taken in turn; the least of all counts.
+const ROUNDS: usize = 5;
+const SAMPLES: usize = 8;
 /// How long a sample takes at least.
 const SAMPLE: Duration = Duration::from_millis(4);
 
@@ -131,17 +134,15 @@ fn calls_for(f: &mut dyn FnMut()) -> u32 {
     }
 }
 
-/// The least time of each, sampled in turn so that a disturbance meets all alike. The first samples, which find out how many
-/// calls a sample has, also warm caches and the branch predictor, and are not counted.
-fn times(sides: &mut [&mut dyn FnMut()]) -> Vec<f64> {
-    let calls: Vec<u32> = sides.iter_mut().map(|f| calls_for(*f)).collect();
-    let mut least = vec![f64::INFINITY; sides.len()];
+/// Lowers each side's least time, sampled in turn so that a disturbance meets all alike. The first samples, which find out how
+/// many calls a sample has, also warm caches and the branch predictor, and are not counted.
+fn lower<const N: usize>(least: &mut [f64; N], mut sides: [&mut dyn FnMut(); N]) {
+    let calls = sides.each_mut().map(|f| calls_for(*f));
     for _ in 0..SAMPLES {
         for (i, f) in sides.iter_mut().enumerate() {
             least[i] = least[i].min(sample(calls[i], *f));
         }
     }
-    least
 }
 
 /// The two sides must agree before they are timed.
@@ -157,68 +158,86 @@ fn agree(case: &Case, lookup: bool, defs: &oracle::asm::ItemDefs) -> u32 {
     told.visits
 }
 
-fn time_matching() {
-    println!("| case | way | visits | proved call | its checks | Rust | Rust from the table | Rust / call | per visit: proved | Rust | ratio |");
-    println!("|---|---|---|---|---|---|---|---|---|---|---|");
+/// Least times of a call: proved, its checks alone, the Rust, the Rust from the packed table.
+fn time_case(case: &Case, lookup: bool, least: &mut [f64; 4]) {
+    let defs = oracle::unpack_table(&case.table);
     let mut room = vec![0; ROOM];
-    let mut room2 = vec![0; ROOM];
-    for case in cases::all() {
-        let defs = oracle::unpack_table(&case.table);
-        for lookup in [false, true] {
-            let visits = agree(&case, lookup, &defs) as f64;
-            let times = times(&mut [
-                &mut || {
-                    black_box(proved(black_box(&case), lookup, BUDGET, &mut room).visits);
-                },
-                &mut || {
-                    black_box(proved(black_box(&case), lookup, 0, &mut room2).number);
-                },
-                &mut || {
-                    black_box(oracle::run_match(black_box(&defs), &case.line, &case.sheet, lookup));
-                },
-                &mut || {
-                    let defs = oracle::unpack_table(black_box(&case.table));
-                    black_box(oracle::run_match(&defs, &case.line, &case.sheet, lookup));
-                },
-            ]);
-            let [call, checks, rust, from_table] = times[..] else {
-                unreachable!()
-            };
-            let own = (call - checks) / visits;
-            println!(
-                "| {} | {} | {visits} | {call:.0} | {checks:.0} | {rust:.0} | {from_table:.0} | {:.2} | {own:.1} | {:.1} | {:.1} |",
-                case.name,
-                if lookup { "lookup" } else { "scan" },
-                rust / call,
-                rust / visits,
-                rust / visits / own,
-            );
-        }
-    }
+    let mut other = vec![0; ROOM];
+    lower(
+        least,
+        [
+            &mut || {
+                black_box(proved(black_box(case), lookup, BUDGET, &mut room).visits);
+            },
+            &mut || {
+                black_box(proved(black_box(case), lookup, 0, &mut other).number);
+            },
+            &mut || {
+                black_box(oracle::run_match(black_box(&defs), &case.line, &case.sheet, lookup));
+            },
+            &mut || {
+                let defs = oracle::unpack_table(black_box(&case.table));
+                black_box(oracle::run_match(&defs, &case.line, &case.sheet, lookup));
+            },
+        ],
+    );
 }
 
-fn time_selection() {
-    println!("| outcomes | proved | Rust | Rust / proved |");
-    println!("|---|---|---|---|");
-    for count in [1, 2, 4, 16, 64, 256, 1024, 4096] {
-        let mut words = cases::outcomes(count);
-        let mut room = vec![0; count];
-        let mut outcomes = oracle::Outcomes::new(&words);
-        assert!(proved_select(&mut words, &mut room).number == outcomes.select(false).number);
-        let times = times(&mut [
+fn time_selection(count: usize, least: &mut [f64; 2]) {
+    let mut words = cases::outcomes(count);
+    let mut room = vec![0; count];
+    let mut outcomes = oracle::Outcomes::new(&words);
+    assert!(proved_select(&mut words, &mut room).number == outcomes.select(false).number);
+    lower(
+        least,
+        [
             &mut || {
                 black_box(proved_select(black_box(&mut words), &mut room).count);
             },
             &mut || {
                 black_box(outcomes.select(false).count);
             },
-        ]);
+        ],
+    );
+}
+
+fn print_matching(rows: &[(Case, bool, [f64; 4])]) {
+    println!("| case | way | visits | call | checks | Rust | Rust from the table | Rust / call | from the table / call | per visit | Rust | ratio |");
+    println!("|---|---|---|---|---|---|---|---|---|---|---|---|");
+    for (case, lookup, [call, checks, rust, from_table]) in rows {
+        let visits = agree(case, *lookup, &oracle::unpack_table(&case.table)) as f64;
+        let own = (call - checks) / visits;
         println!(
-            "| {count} | {:.0} | {:.0} | {:.1} |",
-            times[0],
-            times[1],
-            times[1] / times[0]
+            "| {} | {} | {visits} | {call:.0} | {checks:.0} | {rust:.0} | {from_table:.0} | {:.2} | {:.1} | {own:.1} | {:.1} | {:.1} |",
+            case.name,
+            if *lookup { "lookup" } else { "scan" },
+            rust / call,
+            from_table / call,
+            rust / visits,
+            rust / visits / own,
         );
+    }
+}
+
+fn time_all() {
+    let both = |case: Case| [false, true].map(|lookup| (case.clone(), lookup, [f64::INFINITY; 4]));
+    let mut rows: Vec<_> = cases::all().into_iter().flat_map(both).collect();
+    let mut selections = [1, 2, 4, 16, 64, 256, 1024, 4096].map(|count| (count, [f64::INFINITY; 2]));
+    for (case, lookup, _) in &rows {
+        agree(case, *lookup, &oracle::unpack_table(&case.table));
+    }
+    for _ in 0..ROUNDS {
+        for (case, lookup, least) in &mut rows {
+            time_case(case, *lookup, least);
+        }
+        for (count, least) in &mut selections {
+            time_selection(*count, least);
+        }
+    }
+    print_matching(&rows);
+    println!("\n| outcomes | proved | Rust | Rust / proved |\n|---|---|---|---|");
+    for (count, [own, rust]) in selections {
+        println!("| {count} | {own:.0} | {rust:.0} | {:.1} |", rust / own);
     }
 }
 
@@ -251,12 +270,11 @@ fn main() {
     match args[..] {
         [] => {
             println!(
-                "Nanoseconds a call; the least of {SAMPLES} samples of at least {} ms.\n",
+                "Nanoseconds; the least of {} samples of at least {} ms.\n",
+                ROUNDS * SAMPLES,
                 SAMPLE.as_millis()
             );
-            time_matching();
-            println!();
-            time_selection();
+            time_all();
         }
         ["--list"] => {
             for case in cases::all() {

@@ -9,6 +9,7 @@ mod cases;
 mod ground;
 mod matching;
 mod model;
+mod notation;
 mod random;
 mod record;
 mod report;

@@ -8,6 +8,7 @@
 //! they read.
 use crate::cases::{self, Case};
 use crate::model::{self, Answer, Call};
+use crate::notation::rule;
 use crate::random::Random;
 use crate::sides;
 use std::fmt::Write;
@@ -141,28 +142,6 @@ impl Sample {
             .unwrap();
         }
     }
-}
-
-/// A rule from its text: a space is whitespace, `{}` an expression, `{1}` a rule of ruleset 1, another byte itself.
-fn rule(text: &str) -> Vec<u16> {
-    let mut parts = Vec::new();
-    let mut rest = text.as_bytes();
-    while let [first, after @ ..] = rest {
-        rest = after;
-        parts.push(match (first, after) {
-            (b' ', _) => 256,
-            (b'{', [b'}', after @ ..]) => {
-                rest = after;
-                257
-            }
-            (b'{', [digit, b'}', after @ ..]) => {
-                rest = after;
-                512 + (digit - b'0') as u16
-            }
-            _ => *first as u16,
-        });
-    }
-    parts
 }
 
 /// A call from rulesets and a sheet's ends: half, start, limit and end of each. The first ruleset is a top one, and so is

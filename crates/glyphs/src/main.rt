@@ -1,0 +1,127 @@
+// The main job on a small table of glyph rules that overlap. For each line of standard input, up to 4,096 bytes: every
+// reading with the most exact parts; then, on a guessing pass and on the last, the smallest known encoding among them, or
+// why the build stops. A line that begins with `#` is a comment.
+mod outcome;
+mod reading;
+mod rules;
+mod selection;
+mod sheet;
+mod show;
+mod table;
+
+use crate::reading::FIRST;
+use crate::reading::ROOM;
+use crate::reading::Reading;
+use crate::reading::word;
+use crate::selection::Outcomes;
+use crate::show::part;
+use crate::show::say;
+use crate::show::tell;
+use crate::table::TABLE;
+use matcher::Answer;
+
+const IN: i32 = 0;
+
+// More visits than any line takes under this table.
+const BUDGET: u32 = 10_000;
+
+// Writes why a line has no reading.
+fn put_refusal(answer: Answer) {
+    match answer {
+        Answer::NoMatch { visits: _ } => say(b"\n    the build stops, number 1: no rule reads it"),
+        Answer::BadTable => say(b"\n    the build stops, number 2: bad table"),
+        Answer::BadLine { place } => tell(
+            b"\n    the build stops, number 3: bad line at place %",
+            place as usize,
+            0,
+            0,
+        ),
+        _ => say(b"\n    the build stops"),
+    }
+}
+
+// Writes the readings, how many lookup found, and what is chosen among them on a guessing pass and on the last.
+fn put_readings(line: &[u8], found: &[u16; ROOM], again: &[u16; ROOM]) {
+    let count = word(found, 0, 0);
+    let first = Reading::show(found, line, FIRST);
+    let second = if 1 < count {
+        Reading::show(found, line, first.at)
+    } else {
+        first
+    };
+    tell(
+        b"\n    readings: % by scan, % by lookup; exact parts: %\n    guessing pass:",
+        count,
+        word(again, 0, 0),
+        word(found, 0, 1),
+    );
+    let mut o = Outcomes {
+        count,
+        rule: first.rule,
+        other: second.rule,
+        first: first.guessing,
+        second: second.guessing,
+    };
+    selection::pass(o, false);
+    o.first = first.last;
+    o.second = second.last;
+    say(b"\n    last pass:    ");
+    selection::pass(o, true);
+}
+
+// Makes a line's sheet, and calls both entry points.
+fn read(line: &[u8], sheet: &mut [u8]) {
+    sheet::fill(sheet, line);
+    let mut found = [0u16; ROOM];
+    let scan = matcher::match_instr(&TABLE, line, sheet, BUDGET, &mut found);
+    let mut again = [0u16; ROOM];
+    matcher::match_with_ruledef_map(&TABLE, line, sheet, BUDGET, &mut again);
+    if word(&found, 0, 0) == 0 {
+        put_refusal(scan);
+    } else {
+        put_readings(line, &found, &again);
+    }
+}
+
+// Writes a line of the input, and under it what is read in it.
+fn show_line(line: &[u8]) {
+    say(b"\n");
+    say(line);
+    if is_comment(line) {
+        return;
+    }
+    let mut sheet = [0u8; sheet::MOST_BYTES];
+    let length = sheet::length(line.len());
+    read(line, &mut sheet[0..length]);
+}
+
+fn is_comment(line: &[u8]) -> bool {
+    if line.len() == 0 {
+        return true;
+    }
+    line[0] == b'#'
+}
+
+// The lines of a text: what stands before a newline, and after the last one if that is something.
+fn show_lines(text: &[u8]) {
+    let mut from: usize = 0;
+    let mut at: usize = 0;
+    while at < text.len() {
+        if text[at] == b'\n' {
+            show_line(part(text, from, at));
+            from = at + 1;
+        }
+        at += 1;
+    }
+    if from < at {
+        show_line(part(text, from, at));
+    }
+}
+
+fn main() {
+    let mut text = io::buffer();
+    let n = io::read_full(IN, &mut text);
+    rules::show();
+    show_lines(&text[..n]);
+    say(b"\n");
+}

@@ -1,0 +1,96 @@
+// Outcome words, guess + 2·kind + 8·size: a rule's size, if its values meet its constraint.
+use crate::rules::TWO_BYTES;
+use crate::rules::fits_of;
+use crate::sheet::DIGIT;
+use crate::sheet::class;
+use crate::sheet::over_sign;
+
+// The word of a failed constraint; of a sized outcome but for its size; and what a size is multiplied by.
+pub const FAILED: u32 = 2;
+
+pub const SIZED: u32 = 6;
+
+pub const SIZE_UNIT: u32 = 8;
+
+// How many numbers below zero a byte and two bytes hold, signed.
+const BYTE_HALF: u32 = 128;
+
+const TWO_BYTES_HALF: u32 = 32_768;
+
+// What a name turns out to be on the last pass.
+const NAME: u32 = 300;
+
+// From here on a number fits no constraint, and its further digits do not matter.
+const LARGE: u32 = 100_000;
+
+// A decimal number, or a name: how far from zero it is, and whether below.
+pub struct Value {
+    pub name: bool,
+    pub negative: bool,
+    pub size: u32,
+}
+
+// The word of an outcome, after a value more. A name is a guess until the last pass.
+pub fn with_value(v: Value, rule: usize, last: bool, result: u32) -> u32 {
+    if result == FAILED {
+        return FAILED;
+    }
+    if v.name {
+        if !last {
+            return result - result % 2 + 1;
+        }
+    }
+    if fits(v, fits_of(rule)) {
+        result
+    } else {
+        FAILED
+    }
+}
+
+// Whether a value fits so many signed bits: 8 hold -128 to 127, and 16 hold -32,768 to 32,767.
+fn fits(v: Value, bits: usize) -> bool {
+    let half = if bits == TWO_BYTES {
+        TWO_BYTES_HALF
+    } else {
+        BYTE_HALF
+    };
+    if v.negative {
+        v.size <= half
+    } else {
+        v.size < half
+    }
+}
+
+// The value of an argument's text.
+pub fn value_of(text: &[u8]) -> Value {
+    let from = over_sign(text, 0);
+    let mut size: u32 = 0;
+    let mut i = from;
+    while i < text.len() {
+        let byte = text[i];
+        if class(byte) != DIGIT {
+            return Value {
+                name: true,
+                negative: 0 < from,
+                size: NAME,
+            };
+        }
+        size = with_digit(size, byte);
+        i += 1;
+    }
+    Value {
+        name: false,
+        negative: 0 < from,
+        size,
+    }
+}
+
+// A number with a digit more.
+fn with_digit(size: u32, byte: u8) -> u32 {
+    if size < LARGE {
+        if b'0' <= byte {
+            return size * 10 + (byte - b'0') as u32;
+        }
+    }
+    size
+}
