@@ -101,23 +101,18 @@ fn overlapping(rules: usize) -> (Vec<Vec<String>>, String, String) {
     )
 }
 
-/// Operands as rulesets, two deep: registers, and addresses that hold registers.
+/// Operands as rulesets, two deep: registers, and addresses that hold registers. Half of 8 rules are operands, 12 of more.
 fn nested(rules: usize) -> (Vec<Vec<String>>, String, String) {
-    let inner = 12;
     let shapes = [" {1}", " {1},{1}", " {2}", " {1},{2}", " {2},{1}", " {}"];
     let of = |i: usize| mnemonic(i / shapes.len()) + shapes[i % shapes.len()];
-    let top = rules.saturating_sub(inner).max(4);
-    let registers = ["p", "q", "cvt", "sp", "zp", "gs"].map(str::to_string);
-    let addresses = ["({1})", "({1}+{})", "({}+{1})", "[{}]", "#{}", "{1}"].map(str::to_string);
-    let mut rulesets = vec![
-        (0..top).map(of).collect::<Vec<_>>(),
-        registers.to_vec(),
-        addresses.to_vec(),
-    ];
-    rulesets[2].truncate(rules.saturating_sub(top + 6).max(2));
+    let operands = (rules / 2).min(12);
+    let top = rules - operands;
+    let registers = &["p", "q", "cvt", "sp", "zp", "gs"][..operands / 2];
+    let addresses = &["({1})", "({1}+{})", "({}+{1})", "[{}]", "#{}", "{1}"][..operands / 2];
+    let texts = |list: &[&str]| list.iter().map(|t| t.to_string()).collect::<Vec<_>>();
     let named = mnemonic(top / shapes.len() / 2);
     (
-        rulesets,
+        vec![(0..top).map(of).collect(), texts(registers), texts(addresses)],
         format!("{named} q,(p+4)"),
         format!("{named} q,(p+{LONG_EXPRESSION})"),
     )
@@ -146,7 +141,7 @@ pub fn all() -> Vec<Case> {
     cases
 }
 
-/// Outcome words: sizes 8 to 64 in turn, some failed, and of one least size.
+/// Outcome words: sizes 8 to 64 in turn, some failed, some unknown, and one of least size.
 pub fn outcomes(count: usize) -> Vec<u32> {
     let word = |i: usize| match i % 5 {
         _ if i == count / 2 => 6 + 8 * 4,

@@ -187,7 +187,9 @@ fn time_selection(count: usize, least: &mut [f64; 2]) {
     let mut words = cases::outcomes(count);
     let mut room = vec![0; count];
     let mut outcomes = oracle::Outcomes::new(&words);
-    assert!(proved_select(&mut words, &mut room).number == outcomes.select(false).number);
+    let (own, rust) = (proved_select(&mut words, &mut room), outcomes.select(false));
+    assert!((own.number, own.count as usize) == (rust.number, rust.count));
+    assert!(room.iter().zip(&rust.chosen).all(|(own, rust)| *own as usize == *rust));
     lower(
         least,
         [

@@ -1,5 +1,5 @@
 #!/usr/bin/env python3
-"""Does the comparison see an error? Builds wrong copies of the Rust, one edit each, and compares the proved code with each.
+"""Does the comparison see an error? Builds wrong copies of the Rust, one error each, and compares the proved code with each.
 
     wrong.py [--text RUST_TEXT] [--cases N] [--seed S] [--only WORDS]
 
@@ -28,16 +28,19 @@ SAME_PLACE = "|a, b| a.1.next_useful_index() == b.1.next_useful_index()"
 GREEDY = "exprs.push((expr, walker_usize_greedy));"
 UNCUT = "let mut results = parse_fn(walker.clone());\n"
 NESTED_CALL = "                    walker.clone(),\n                    {})),"
+CUT_BACK = "r.1.set_cursor_limit(prev_limit);"
+NESTED_BACK = "walker.set_cursor_limit(walker_limit_prev);"
 WHITE_PART = """walker.next_token().kind != syntax::TokenKind::Whitespace
                 {
                     return vec![];
                 }"""
 CLOSER = "if paren_nesting == 0\n                    { break; }\n                \n                paren_nesting -= 1;"
 
-# What is wrong, in which file, the text there and what stands for it.
+# What is wrong, in which file, the text there and what stands for it: one text or several.
 WRONG = [
     # both limits
-    ("the cut stays in force after the parameter", MATCHER, "r.1.set_cursor_limit(prev_limit);", ""),
+    ("the cut stays in force after an expression", MATCHER, CUT_BACK, ""),
+    ("the inner limit stays in force after a nested match", MATCHER, [CUT_BACK, NESTED_BACK], ["", ""]),
     ("a top rule may end before the limit", MATCHER, "if !walker.is_over() && needs_consume_all_tokens", "if false"),
     ("a nested rule must reach the limit", MATCHER, NESTED_CALL.format("false"), NESTED_CALL.format("true")),
     # the parameter's own ends
@@ -102,7 +105,7 @@ WRONG = [
 ]
 
 # The nested step puts the limit back after parse_with_lookahead has done so.
-REDUNDANT = ("the limit put back once, not twice", MATCHER, "walker.set_cursor_limit(walker_limit_prev);", "")
+REDUNDANT = ("the limit put back once, not twice", MATCHER, NESTED_BACK, "")
 
 
 def compare(oracle, part, args):
@@ -122,9 +125,11 @@ def copy_with(text, edit, folder):
     path = folder / "src" / file
     path.chmod(0o644)
     source = path.read_text()
-    if source.count(old) != 1:
-        sys.exit(f"wrong: {name}: its text stands {source.count(old)} times in {file}")
-    path.write_text(source.replace(old, new))
+    for text, other in zip([old], [new]) if isinstance(old, str) else zip(old, new):
+        if source.count(text) != 1:
+            sys.exit(f"wrong: {name}: its text stands {source.count(text)} times in {file}")
+        source = source.replace(text, other)
+    path.write_text(source)
     done = subprocess.run([HERE / "build", folder / "src", folder], capture_output=True, text=True)
     if done.returncode:
         sys.exit(f"wrong: {name}: does not build: {done.stderr}")
@@ -139,6 +144,8 @@ def main():
     args.add_argument("--only", default="", help="only the edits whose name has these words")
     args = args.parse_args()
 
+    if not (BUILT / "compare").exists():
+        sys.exit("wrong: run oracle/run first: it builds the program that compares")
     if any(compare(BUILT, part, args) for part in ("ground", "matching", "selection")):
         sys.exit("wrong: the proved code differs from the Rust itself")
 

@@ -7,7 +7,7 @@ pub const BUDGET: u32 = 20_000;
 
 pub const MOST_BUDGET: u32 = 1_000_000;
 
-/// Room for most answers, and for every one.
+/// Room for most answers, and for every one that is made here.
 pub const ROOM: usize = 300;
 pub const MOST_ROOM: usize = 60_000;
 

@@ -42,8 +42,8 @@ fn moves(report: &mut Report, line: &[u8], w: Walker, wanted: u8) {
             "{text:?} {w:?} {wanted}: proved {told:?}, document 01 {expected:?}"
         ));
     }
-    // A byte 0 is found at the limit by the Rust (docs/DIFFERENCES.md); no line and no part has one.
-    if w == here && wanted != 0 {
+    // The Rust's line is text, and it finds a byte 0 at the limit (docs/DIFFERENCES.md); no line and no part has one.
+    if w == here && line.is_ascii() && wanted.is_ascii() && wanted != 0 {
         let rust = sides::rust_moves(line, w, wanted);
         report.see("walker moves, cuts and tests against the Rust", true);
         report.see("  a cut found", told.cut.is_some());
@@ -78,7 +78,16 @@ pub fn short_lines(report: &mut Report) {
     }
 }
 
-/// Longer lines, cursors and limits past their ends, any byte.
+/// Every byte wanted in every line of one byte.
+pub fn all_bytes(report: &mut Report) {
+    for byte in 0..=255 {
+        for wanted in 0..=255 {
+            moves(report, &[byte], Walker { cursor: 0, limit: 1 }, wanted);
+        }
+    }
+}
+
+/// Longer lines, cursors and limits past their ends.
 pub fn random_lines(report: &mut Report, seed: u64, cases: u64) {
     for number in 0..cases {
         let random = &mut Random::new(seed ^ 0x6C69_6E65, number);
@@ -102,8 +111,7 @@ pub fn random_lines(report: &mut Report, seed: u64, cases: u64) {
     }
 }
 
-/// The rules to try, and their order. A table of every beginning of a line's first bytes, in some case, and of words near to
-/// them shows the line's prefix and each rule's.
+/// The rules to try, their order, and the length at which each is found: so the line's prefix and each rule's.
 fn query(report: &mut Report, table: &[u16], line: &[u8]) {
     let Some(read) = model::read_table(table) else {
         return;
@@ -127,8 +135,9 @@ fn query(report: &mut Report, table: &[u16], line: &[u8]) {
     }
 }
 
-pub fn queries(report: &mut Report, seed: u64, cases: u64) {
-    // Every rule of at most 5 parts out of two letters and whitespace, against every line of those and a space.
+/// Every rule of at most 5 parts out of two letters and whitespace in one table, against every line of at most 6 bytes out of
+/// those letters, one of them in both cases, and a space.
+pub fn short_queries(report: &mut Report) {
     let rules = cases::all_up_to(&[b'a' as u16, b'B' as u16, 256], 5);
     let words = |rules: &[Vec<u16>]| {
         let mut table = vec![1, rules.len() as u16, rules.iter().map(|r| r.len() as u16).sum(), 0];
@@ -144,6 +153,10 @@ pub fn queries(report: &mut Report, seed: u64, cases: u64) {
     for line in cases::all_up_to(b"aAb ", 6) {
         query(report, &table, &line);
     }
+}
+
+/// Random tables and lines of a seed.
+pub fn random_queries(report: &mut Report, seed: u64, cases: u64) {
     for number in 0..cases {
         let random = &mut Random::new(seed ^ 0x7072_6566, number);
         let case = cases::make(random);

@@ -18,6 +18,9 @@ mod sides;
 
 use report::Report;
 
+/// What can be compared alone: a name, and what gives the number of differences.
+const PARTS: [(&str, fn(&Args) -> usize); 3] = [("ground", ground), ("matching", matching), ("selection", selection)];
+
 struct Args {
     cases: u64,
     seed: u64,
@@ -39,7 +42,7 @@ fn args() -> Option<Args> {
         match word.as_str() {
             "--cases" => args.cases = words.next()?.parse().ok()?,
             "--seed" => args.seed = words.next()?.parse().ok()?,
-            "--only" => args.only = Some(words.next()?),
+            "--only" => args.only = Some(words.next().filter(|part| PARTS.iter().any(|(name, _)| name == part))?),
             "--quick" => args.quick = true,
             "--record" => args.record = Some(words.next()?),
             _ => return None,
@@ -51,10 +54,12 @@ fn args() -> Option<Args> {
 fn ground(args: &Args) -> usize {
     let report = &mut Report::default();
     if !args.quick {
+        ground::all_bytes(report);
         ground::short_lines(report);
+        ground::short_queries(report);
     }
     ground::random_lines(report, args.seed, args.cases);
-    ground::queries(report, args.seed, args.cases / 10);
+    ground::random_queries(report, args.seed, args.cases / 10);
     report.print("walkers, cuts, prefixes");
     report.differences
 }
@@ -94,11 +99,7 @@ fn main() {
     }
     println!("seed {}, {} random cases", args.seed, args.cases);
     let mut differences = 0;
-    for (name, part) in [
-        ("ground", ground as fn(&Args) -> usize),
-        ("matching", matching),
-        ("selection", selection),
-    ] {
+    for (name, part) in PARTS {
         if args.only.as_deref().map_or(true, |only| only == name) {
             differences += part(&args);
         }

@@ -6,7 +6,7 @@ use crate::report::Report;
 use crate::sides::{proved_match, rust_match};
 
 /// Compares one call; what it gave.
-fn compare(report: &mut Report, call: &Call, lookup: bool) -> (Answer, Walked) {
+fn compare(report: &mut Report, call: &Call, lookup: bool) -> Answer {
     let (told, left_alone) = proved_match(call, lookup);
     let (expected, walked) = model::answer(call, lookup);
 
@@ -18,12 +18,12 @@ fn compare(report: &mut Report, call: &Call, lookup: bool) -> (Answer, Walked) {
             "{how}: proved {told:?} (rest of the buffer unchanged: {left_alone}), document 01 {expected:?} of {}",
             show(call)
         ));
-        return (told, walked);
+        return told;
     }
     if told.number <= 1 || told.number == 9 {
         with_rust(report, call, lookup, how, &told, walked);
     }
-    (told, walked)
+    told
 }
 
 /// Compares the answer with the Rust's, and what the Rust's calls show of visits and records with what the model counts.
@@ -76,24 +76,25 @@ fn number_name(number: u32) -> &'static str {
 }
 
 /// A call by scan and by lookup. Where the scan ends in 0 or 1, lookup has no more visits.
-fn both(report: &mut Report, call: &Call) -> (Answer, Walked) {
-    let scan = compare(report, call, false);
-    let (lookup, _) = compare(report, call, true);
-    if scan.0.number <= 1 && lookup.visits > scan.0.visits {
+fn both(report: &mut Report, call: &Call) -> [Answer; 2] {
+    let [scan, lookup] = [false, true].map(|lookup| compare(report, call, lookup));
+    if scan.number <= 1 && lookup.visits > scan.visits {
         report.differ(format!("lookup has more visits than the scan: {}", show(call)));
     }
-    scan
+    [scan, lookup]
 }
 
-/// The call with just enough, and with too little, budget and room.
-fn boundaries(report: &mut Report, call: &Call, told: &Answer) {
-    let visits = told.visits;
-    let room = told.words as usize;
+/// The call with just enough, and with too little, budget: where one of 6, 7 and 8 gives way to another.
+fn budgets(report: &mut Report, call: &Call, visits: u32) {
     for budget in [visits, visits.saturating_sub(1), visits + 1, visits / 2] {
         let call = Call { budget, ..call.clone() };
         both(report, &call);
     }
-    for room in [room, room.saturating_sub(1), room / 2, room + 1, 0] {
+}
+
+/// The same with room.
+fn rooms(report: &mut Report, call: &Call, words: usize) {
+    for room in [words, words.saturating_sub(1), words / 2, words + 1, 0] {
         let call = Call { room, ..call.clone() };
         both(report, &call);
     }
@@ -102,6 +103,7 @@ fn boundaries(report: &mut Report, call: &Call, told: &Answer) {
 /// The pool's limit, with the Rust: it goes on, and its calls show how many records would be due.
 fn records_due(report: &mut Report, call: &Call, told: &Answer) {
     let Some((_, seen)) = rust_match(call, false) else {
+        report.differ(format!("the Rust panics on {}", show(call)));
         return;
     };
     let due = seen.kept + seen.completed;
@@ -132,16 +134,21 @@ pub fn random(report: &mut Report, seed: u64, cases: u64) {
         if random.chance(10) {
             call.budget = cases::MOST_BUDGET;
         }
-        let (mut told, _) = both(report, &call);
-        if told.number == 9 {
+        let [mut scan, mut lookup] = both(report, &call);
+        if scan.number == 9 {
             call.room = cases::MOST_ROOM;
-            told = both(report, &call).0;
+            [scan, lookup] = both(report, &call);
         }
-        if cases::is_crowd(&case) {
-            records_due(report, &call, &told);
+        let crowd = cases::is_crowd(&case);
+        if crowd {
+            records_due(report, &call, &scan);
         }
-        if random.chance(100) && told.number <= 1 {
-            boundaries(report, &call, &told);
+        if crowd || random.chance(100) {
+            budgets(report, &call, scan.visits);
+            budgets(report, &call, lookup.visits);
+        }
+        if scan.number == 0 && random.chance(100) {
+            rooms(report, &call, scan.words as usize);
         }
         if random.chance(300) {
             for _ in 0..3 {

@@ -122,12 +122,8 @@ impl Sample {
             .unwrap();
 
             let told = model::select(words, last, room);
-            // A list with an unresolved word can't be given to the Rust, nor told 11 from 12 where it is silent.
-            if told.number != 10 && told.number != 14 && !words.contains(&0) {
-                let rust = sides::rust_select(words, last).expect("the Rust panics");
-                let silent = !last || words.is_empty();
-                assert!(rust.number == told.number || (silent && rust.number == 11));
-                assert!((rust.count, &rust.words, &rust.chosen) == (told.count, &told.words, &told.chosen));
+            if told.number != 10 && told.number != 14 {
+                assert!(sides::rust_choice(words, last, told.number).expect("the Rust panics") == told);
             }
             let mut buffer = told.chosen;
             buffer.resize(room, UNTOUCHED);
@@ -440,9 +436,19 @@ fn refusals(sample: &mut Sample) {
     for rulesets in [17, 18] {
         sample.both(&format!("depth {}", rulesets - 1), &chain(rulesets));
     }
+    // The last ruleset's rule is taken away: its flag stands at 3 + 17, the number of rules at 1 and of parts at 2.
+    sample.but("depth 17, an empty ruleset", &chain(18), |c| {
+        c.table.drain(3 + 18 + 3 * 17..3 + 18 + 3 * 18);
+        c.table.pop();
+        (c.table[1], c.table[2]) = (17, 17);
+    });
+    sample.but("depth 17, budget 17", &chain(18), |c| c.budget = 17);
+    sample.but("depth 17, budget 16", &chain(18), |c| c.budget = 16);
     for empty in [344, 345] {
         sample.both(&format!("{} records", 3752 + empty), &crowd(empty));
     }
+    sample.but("4097 records, budget 3074", &crowd(345), |c| c.budget = 3074);
+    sample.but("4097 records, budget 3073", &crowd(345), |c| c.budget = 3073);
 }
 
 /// Random cases that are short enough to be read.
@@ -483,7 +489,9 @@ fn selections(sample: &mut Sample) {
     for word in [1, 8, 10, 12, 524_294, u32::MAX] {
         sample.selection(&format!("bad word {word}"), &[70, word], 3);
     }
-    sample.selection("4,096 words", &[14; 4096], 0);
+    sample.selection("room for the choice and no more", &[135, 70, 70], 2);
+    sample.selection("4,096 words", &[14; 4096], 4096);
+    sample.selection("4,096 words, no room", &[14; 4096], 0);
     sample.selection("4,097 words", &[14; 4097], 3);
 }
 

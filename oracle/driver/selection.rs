@@ -1,10 +1,6 @@
-//! Compares selection: on every list with the model, and on good lists with the Rust.
-//!
-//! Three things the Rust can't say are bridged. It leaves no match unresolved before it selects: word 0 is given to it as 3,
-//! a failed constraint that is a guess (also not resolved and a guess), and read back as 0. "No choice" on a guessing pass,
-//! or for an empty list, has no report: 11 and 12 are then taken as the same. Its lists grow: 14 is not asked of it.
+//! Compares selection: on every list with the model, and on good lists with the Rust. Its lists grow: 14 is not asked of it.
 use crate::cases;
-use crate::model::{self, Chosen};
+use crate::model;
 use crate::random::Random;
 use crate::report::Report;
 use crate::sides;
@@ -24,22 +20,9 @@ fn compare(report: &mut Report, words: &[u32], last: u32, room: usize) {
     if told.number == 10 || told.number == 14 {
         return;
     }
-    let given: Vec<u32> = words.iter().map(|w| if *w == 0 { 3 } else { *w }).collect();
-    let Some(rust) = sides::rust_select(&given, last != 0) else {
+    let Some(rust) = sides::rust_choice(words, last != 0, told.number) else {
         report.differ(format!("the Rust panics on selection of {words:?}"));
         return;
-    };
-    let back = |(old, new): (&u32, &u32)| if *old == 0 && *new == 3 { 0 } else { *new };
-    let silent = last == 0 || words.is_empty();
-    let number = if silent && rust.number == 11 && told.number == 12 {
-        12
-    } else {
-        rust.number
-    };
-    let rust = Chosen {
-        number,
-        words: words.iter().zip(&rust.words).map(back).collect(),
-        ..rust
     };
     report.see("compared with the Rust", true);
     report.see("  with an unresolved word", words.contains(&0));

@@ -209,9 +209,14 @@ pub fn rust_match(call: &Call, lookup: bool) -> Option<(Vec<u16>, Seen)> {
         if count == PANICKED {
             return None;
         }
-        // A wrong copy may have more words than any answer.
-        let count = words.len().min(count as usize);
-        Some((words[..count].to_vec(), seen))
+        // A wrong copy may have more words than any answer: then none were written, and it has none of the answer's.
+        let count = count as usize;
+        let told = if count <= words.len() {
+            words[..count].to_vec()
+        } else {
+            vec![0; count]
+        };
+        Some((told, seen))
     })
 }
 
@@ -231,8 +236,28 @@ pub fn proved_select(words: &[u32], last: u32, room: usize) -> (Chosen, bool) {
     (chosen, rest.iter().all(|w| *w == UNTOUCHED))
 }
 
+/// The Rust's choice among good outcomes, with two things bridged that it can't say. Nothing if it panicked.
+///
+/// It leaves no match unresolved before it selects: word 0 is given to it as 3, a failed constraint that is a guess (also not
+/// resolved and a guess), and read back as 0. "No choice" on a guessing pass, or for an empty list, has no report: then 12,
+/// where that is expected, is taken to be what it means by 11.
+pub fn rust_choice(words: &[u32], last: bool, expected: u32) -> Option<Chosen> {
+    let given: Vec<u32> = words.iter().map(|w| if *w == 0 { 3 } else { *w }).collect();
+    let mut rust = rust_select(&given, last)?;
+    for (old, new) in words.iter().zip(&mut rust.words) {
+        if *old == 0 && *new == 3 {
+            *new = 0;
+        }
+    }
+    let silent = !last || words.is_empty();
+    if silent && rust.number == 11 && expected == 12 {
+        rust.number = 12;
+    }
+    Some(rust)
+}
+
 /// The Rust's choice among outcomes of kinds 1 to 3. Nothing if it panicked.
-pub fn rust_select(words: &[u32], last: bool) -> Option<Chosen> {
+fn rust_select(words: &[u32], last: bool) -> Option<Chosen> {
     let mut words = words.to_vec();
     let mut buffer = vec![UNTOUCHED; words.len()];
     let mut count = 0;

@@ -155,20 +155,6 @@ pub unsafe extern "C" fn oracle_moves(
     };
 }
 
-/// The line's prefix: its bytes to `out`, as many as fit, and their number.
-#[no_mangle]
-pub unsafe extern "C" fn oracle_line_prefix(line: *const u8, line_len: usize, out: *mut u8, out_len: usize) -> u32 {
-    let line = from_raw_parts(line, line_len);
-    let prefix = asm::RuledefMap::parse_prefix(walker_at(line, 0, line_len));
-    let count = prefix.iter().take_while(|c| **c != '\0').count();
-
-    for (slot, c) in from_raw_parts_mut(out, out_len).iter_mut().zip(&prefix) {
-        *slot = *c as u8;
-    }
-
-    count as u32
-}
-
 /// The rules that the map has for a line's prefixes, those of length 0 first: the length, ruleset and rule of each to
 /// `out`, three words a rule, as many as fit. Returns how many rules there are.
 #[no_mangle]

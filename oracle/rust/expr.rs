@@ -9,14 +9,22 @@ thread_local! {
     static SHEET: Cell<(usize, &'static [u8])> = const { Cell::new((0, &[])) };
 }
 
+/// Puts the sheet aside, also where the Rust panics.
+struct Lent;
+
+impl Drop for Lent {
+    fn drop(&mut self) {
+        SHEET.with(|s| s.set((0, &[])));
+    }
+}
+
 /// Runs `f` with the sheet that its parsers read. The sheet is lent, not copied, as it is to the proved code.
 pub fn with_sheet<T>(line_len: usize, entries: &[u8], f: impl FnOnce() -> T) -> T {
-    // SAFETY: the slice is read through SHEET within `f` only, and is put aside before this returns.
+    // SAFETY: the slice is read through SHEET within `f` only, and is put aside before this returns or unwinds.
     let entries: &'static [u8] = unsafe { std::mem::transmute(entries) };
+    let _lent = Lent;
     SHEET.with(|s| s.set((line_len, entries)));
-    let result = f();
-    SHEET.with(|s| s.set((0, &[])));
-    result
+    f()
 }
 
 /// Reads one half of the sheet (0: free, 1: greedy decimal) at the walker's cursor and limit.
