@@ -4,7 +4,7 @@ use mathlib.Core.Path.{_≡_}
 use mathlib.Core.Bool.{Bool, true, _&&_, _||_}
 use mathlib.Core.List.{List}
 use mathlib.Core.Option.{Option, none, some}
-use Prim.Native.Nat.{ℕ, _+_, _*_, _≤_, _<_}
+use Prim.Native.Nat.{ℕ, _+_, _*_, _≤_}
 use lib.Dec.{leb, ltb, eqb}
 use lib.ListN.{length, getD}
 use Rattle.plain.specs.Choice.{select}
@@ -56,11 +56,6 @@ halfFits sheet n half = everyBelow (n + 1) (rowFits sheet n half)
 -- a sheet is good if its length is right, and every entry of both halves, but for those whose start lies above their limit
 unfoldable pub sheetFits : List ℕ → ℕ → Bool
 sheetFits sheet n = sized sheet n && (halfFits sheet n Free && halfFits sheet n Greedy)
-
--- the places of the longest line, 0 to 120, each as a byte at itself
-pub record HeldPlaces (places : List ℕ) : Type 0 where
-  pub many : length places ≡ 121
-  pub each : (i : ℕ) → i < 121 → getD places i 0 ≡ i
 
 -- an entry's end: 255 for none
 abbrev pub entryEnd : ℕ → Option ℕ

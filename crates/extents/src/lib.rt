@@ -4,7 +4,8 @@
 ghost use mathlib.Core.Path.{_≡_};
 ghost use mathlib.Core.Bool.{true, not};
 ghost use Prim.Native.Nat.{_≤_};
-ghost use Rattle.extents.specs.Sheet.{sized, Within, entryAt, entryFits, rowFits, halfFits, sheetFits, HeldPlaces};
+ghost use Rattle.extents.specs.Sheet.{sized, Within, entryAt, entryFits, rowFits, halfFits, sheetFits};
+ghost use Rattle.extents.specs.Held.{HeldPlaces};
 ghost use Rattle.extents.specs.Sheet.{entryEnd, endIn, freeEnd, greedyEnd, endOf};
 
 // An entry's byte that says: no expression here.
