@@ -28,7 +28,7 @@ use Rattle.readings.proofs.Best.{reached}
 use Rattle.readings.proofs.Bounds.{small, tree-few, words-few}
 use Rattle.readings.proofs.Calls as Calls
 use Rattle.readings.proofs.Records.{top-pairs, found-pairs}
-use Rattle.readings.proofs.Theorems.{scan-demand, lookup-demand}
+use Rattle.readings.proofs.Theorems.{scan-demand, lookup-demand, lookup-agrees}
 use Rattle.pool.specs.declared.Pool.{Pool}
 use Rattle.pool.specs.Meaning.{gathered, meaning, meanings}
 use Rattle.pool.proofs.Meanings.{meanings-more}
@@ -234,3 +234,6 @@ module _ (t line sheet : List ℕ) (budget : ℕ) (b : List ℕ) (r : Told) wher
 
     pub lookup-visits : r .visits ≤ scanCall t line sheet budget b .visits
     lookup-visits = subst (λ (x : Told). x .visits ≤ scanCall t line sheet budget b .visits) (sym e) (lookup-demand t line sheet budget b ok w .1)
+
+    pub lookup-tells : (r .number ≡ scanCall t line sheet budget b .number) × (r .words ≡ scanCall t line sheet budget b .words)
+    lookup-tells = let (n, m) = lookup-agrees t line sheet budget b ok w in (ap (λ (x : Told). x .number) e ∙ n, ap (λ (x : Told). x .words) e ∙ m)

@@ -262,7 +262,7 @@ pub fn match_instr(
     call(table, line, sheet, budget, Order::Scan, answer)
 }
 
-// Prefix lookup: the same readings, and no more visits than the full scan's.
+// Prefix lookup: the same readings, number and words, and no more visits than the full scan's.
 pub fn match_with_ruledef_map(
     table: &[u16],
     line: &[u8],
@@ -273,6 +273,7 @@ pub fn match_with_ruledef_map(
     ensures answers { λ r. ⌜ says r (now (answer .exit)) ≡ lookupCall (now (table .entry)) (now (line .entry)) (now (sheet .entry)) budget (now (answer .entry)) ⌝ }
     ensures readings { λ r. ⌜ (Accepted (now (table .entry)) (now (line .entry)) (now (sheet .entry)) budget → Within (now (table .entry)) (now (line .entry)) (now (sheet .entry)) budget → Demand3 (sceneOf (now (table .entry)) (now (line .entry)) (now (sheet .entry))) (now (answer .entry)) (says r (now (answer .exit)))) ⌝ }
     ensures visits { λ r. ⌜ (Accepted (now (table .entry)) (now (line .entry)) (now (sheet .entry)) budget → Within (now (table .entry)) (now (line .entry)) (now (sheet .entry)) budget → says r (now (answer .exit)) .visits ≤ scanCall (now (table .entry)) (now (line .entry)) (now (sheet .entry)) budget (now (answer .entry)) .visits) ⌝ }
+    ensures agrees { λ r. ⌜ (Accepted (now (table .entry)) (now (line .entry)) (now (sheet .entry)) budget → Within (now (table .entry)) (now (line .entry)) (now (sheet .entry)) budget → (says r (now (answer .exit)) .number ≡ scanCall (now (table .entry)) (now (line .entry)) (now (sheet .entry)) budget (now (answer .entry)) .number) × (says r (now (answer .exit)) .words ≡ scanCall (now (table .entry)) (now (line .entry)) (now (sheet .entry)) budget (now (answer .entry)) .words)) ⌝ }
 {
     call(table, line, sheet, budget, Order::Lookup, answer)
 }

@@ -55,3 +55,10 @@ best-readings s ts r = record {
 pub best-counts : (s : Scene) (ts : List Tree) (t : Tree) → List·Memᴰ t (best s ts) → exactCount s t ≡ greatestCount s ts
 unfolding best
 best-counts s ts t m = eqb-true (exactCount s t) (greatestCount s ts) (kept-mem (λ t. eqb (exactCount s t) (greatestCount s ts)) ts m .1)
+
+-- some match has the greatest count
+pub best-one : (s : Scene) (t : Tree) (ts : List Tree) → (u : Tree) × List·Memᴰ u (best s (t ∷ ts))
+unfolding best
+best-one s t ts =
+    let (u, m, e) = reached s t ts in
+    (u, kept-has (λ v. eqb (exactCount s v) (greatestCount s (t ∷ ts))) (t ∷ ts) (eq-eqb _ _ e) m)

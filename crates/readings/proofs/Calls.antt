@@ -21,8 +21,8 @@ use Rattle.readings.specs.Walk.{Match, tries}
 use Rattle.readings.specs.Answer.{greatestCount, best, answerWords}
 use Rattle.readings.specs.Call.{Accepted, Told, refusedAt, stoppedAfter, written, matched, tree, ended, budgetFits, callWith}
 use Rattle.readings.proofs.Runs.{run-spent}
-use Rattle.readings.specs.Demand.{Demand3}
-use Rattle.readings.proofs.Best.{best-readings, best-counts}
+use Rattle.readings.specs.Demand.{Demand3, no-match, listed}
+use Rattle.readings.proofs.Best.{best-readings, best-counts, best-one}
 
 module _ (order : Scene → List (ℕ × ℕ)) (t line sheet : List ℕ) (budget : ℕ) (b : List ℕ) where
   abbrev answer : Told
@@ -77,13 +77,6 @@ module _ (s : Scene) (v : ℕ) (b : List ℕ) where
   pub short : (ws : List ℕ) → length b < length ws → written v ws b ≡ record { number = 9; visits = v; words = length ws; place = 0; buffer = b }
   short ws h = ap (λ (x : Bool). select x (record { number = 0; visits = v; words = length ws; place = 0; buffer = ws ++ drop (length ws) b }) (record { number = 9; visits = v; words = length ws; place = 0; buffer = b })) (lt-leb (length ws) (length b) h)
 
-  number-of : (ws : List ℕ) → (written v ws b .number ≡ 0) ⊎ (written v ws b .number ≡ 9)
-  number-of ws = by (decLe (length ws) (length b))
-    where
-      by : Dec (length ws ≤ length b) → (written v ws b .number ≡ 0) ⊎ (written v ws b .number ≡ 9)
-      by (yes h) = inl (ap (λ (r : Told). r .number) (fits ws h))
-      by (no h) = inr (ap (λ (r : Told). r .number) (short ws (omega (arith, h))))
-
   words-of : (ws : List ℕ) → written v ws b .words ≡ length ws
   words-of ws = by (decLe (length ws) (length b))
     where
@@ -100,32 +93,21 @@ module _ (s : Scene) (v : ℕ) (b : List ℕ) where
       by (no h) = ap (λ (r : Told). r .visits) (short (answerWords s (t ∷ ts)) (omega (arith, h)))
 
   pub demand : (ts : List Tree) → Readings s ts → Demand3 s b (matched s v ts b)
-  demand [] r = record {
-    no-match = (λ e t k. List·Memᴰ·not-nil (r .every k), λ n. refl);
-    matched = λ k h. absurd (List·Memᴰ·not-nil (r .every k));
-    holds = λ e. let z : _≡_ {A = ℕ} 1 0 = e in absurd (omega arith);
-    no-room = λ k h. absurd (List·Memᴰ·not-nil (r .every k));
-  }
-  demand (t ∷ ts) r = record {
-    no-match = (λ e. absurd (⊎-elim (λ z. omega (arith, e, z)) (λ z. omega (arith, e, z)) (number-of ws)), λ n. absurd (n t (r .only (List·Memᴰ·head refl))));
-    matched = λ k h. ap (λ (x : Told). x .number) (fits ws (omega (arith, h, words-of ws)));
-    holds = λ e. record {
-      trees = best s (t ∷ ts);
-      count = greatestCount s (t ∷ ts);
-      readings = best-readings s (t ∷ ts) r;
-      counts = best-counts s (t ∷ ts);
-      words = words-of ws;
-      held = ap (λ (x : Told). x .buffer) (fits ws (room e));
-    };
-    no-room = λ k h. ap (λ (x : Told). x .number) (short ws (omega (arith, h, words-of ws)));
-  }
+  demand [] r = no-match (λ t k. List·Memᴰ·not-nil (r .every k)) (refl, refl, refl)
+  demand (t ∷ ts) r =
+      listed
+      (record {
+        trees = best s (t ∷ ts);
+        count = greatestCount s (t ∷ ts);
+        readings = best-readings s (t ∷ ts) r;
+        counts = best-counts s (t ∷ ts);
+        one = best-one s t ts;
+      })
+      (record {
+        words = words-of ws;
+        room = λ h. (ap (λ (x : Told). x .number) (fits ws h), ap (λ (x : Told). x .buffer) (fits ws h));
+        no-room = λ h. (ap (λ (x : Told). x .number) (short ws h), ap (λ (x : Told). x .buffer) (short ws h));
+      })
     where
       ws : List ℕ
       ws = answerWords s (t ∷ ts)
-
-      room : written v ws b .number ≡ 0 → length ws ≤ length b
-      room e = by (decLe (length ws) (length b))
-        where
-          by : Dec (length ws ≤ length b) → length ws ≤ length b
-          by (yes h) = h
-          by (no h) = absurd (let z : written v ws b .number ≡ 9 = ap (λ (r : Told). r .number) (short ws (omega (arith, h))) in omega (arith, e, z))

@@ -10,6 +10,7 @@ pub mod Packed
 pub mod Lookups
 pub mod Best
 pub mod Calls
+pub mod Agree
 pub mod Theorems
 pub mod Numbers
 pub mod Spans

@@ -24,6 +24,7 @@ use Rattle.readings.proofs.Scan.{scan-readings}
 use Rattle.readings.proofs.Packed.{lawful}
 use Rattle.readings.proofs.Lookups.{lookup-readings, lookup-done}
 use Rattle.readings.proofs.Calls.{walked-through, visits-told, demand}
+use Rattle.readings.proofs.Agree.{same-told}
 
 -- the rules that a lookup tries
 abbrev prefixed : Scene → List (ℕ × ℕ)
@@ -40,7 +41,7 @@ module _ (t line sheet : List ℕ) (budget : ℕ) (b : List ℕ) (ok : Accepted 
       subst (Demand3 s b) (sym (walked-through topPairs t line sheet budget b ok (w .left) (w .used) (w .matches) (w .ends)))
       (demand s (budget - w .left) b (map tree (w .matches)) (scan-readings s (lawful t line sheet (ok .extents)) budget (w .ends)))
 
-  -- and for lookup, whenever the scan stays within: the same readings, with no more visits
+  -- and for lookup, whenever the scan stays within: the same readings, with no more visits, and so the scan's number and words
   pub lookup-demand : Within t line sheet budget → Demand3 s b (lookupCall t line sheet budget b) × (lookupCall t line sheet budget b .visits ≤ scanCall t line sheet budget b .visits)
   unfolding scan lookup
   lookup-demand w =
@@ -55,6 +56,10 @@ module _ (t line sheet : List ℕ) (budget : ℕ) (b : List ℕ) (ok : Accepted 
           ap (λ (r : Told). r .visits) here ∙ visits-told s (budget - w .left) b (map tree (w .matches)),
         ),
       )
+
+  pub lookup-agrees : Within t line sheet budget
+      → (lookupCall t line sheet budget b .number ≡ scanCall t line sheet budget b .number) × (lookupCall t line sheet budget b .words ≡ scanCall t line sheet budget b .words)
+  lookup-agrees w = same-told (lookup-demand w .0) (scan-demand w)
 
 -- entries whose start lies above their limit change no answer
 module _ (t line a b : List ℕ) (alike : Alike (length line) a b) where

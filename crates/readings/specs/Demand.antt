@@ -31,19 +31,25 @@ pub record BestReadings (s : Scene) (ts : List Tree) : Type 0 where
   pub every : {t : Tree} → Greatest s t → List·Memᴰ t ts
   pub once : Apart (λ (t : Tree). t) ts
 
--- the buffer's start holds these readings, the rest is unchanged
-pub record Holds (s : Scene) (b : List ℕ) (told : Told) : Type 0 where
+-- those readings, of which there is one at least, and their count
+pub record Best (s : Scene) : Type 0 where
   pub trees : List Tree
   pub count : ℕ
   pub readings : BestReadings s trees
   pub counts : (t : Tree) → List·Memᴰ t trees → exactCount s t ≡ count
-  pub words : told .words ≡ length (wordsOf count trees)
-  pub held : told .buffer ≡ wordsOf count trees ++ drop (length (wordsOf count trees)) b
+  pub one : (t : Tree) × List·Memᴰ t trees
 
--- "no match" exactly when no reading exists; with room, every reading with the greatest exact count, each once, and
--- nothing else; without, 9
-pub record Demand3 (s : Scene) (b : List ℕ) (told : Told) : Type 0 where
-  pub no-match : (told .number ≡ 1) ↔ ((t : Tree) → Reading s t → ⊥)
-  pub matched : {t : Tree} → Reading s t → told .words ≤ length b → told .number ≡ 0
-  pub holds : told .number ≡ 0 → Holds s b told
-  pub no-room : {t : Tree} → Reading s t → length b < told .words → told .number ≡ 9
+-- the answer words that they need
+abbrev pub needed : {s : Scene} → Best s → List ℕ
+needed best = wordsOf (best .count) (best .trees)
+
+-- with room for these words, 0: they stand at the buffer's start, and the rest is unchanged; without, 9: nothing is changed
+pub record Tells {s : Scene} (best : Best s) (b : List ℕ) (told : Told) : Type 0 where
+  pub words : told .words ≡ length (needed best)
+  pub room : length (needed best) ≤ length b → (told .number ≡ 0) × (told .buffer ≡ needed best ++ drop (length (needed best)) b)
+  pub no-room : length b < length (needed best) → (told .number ≡ 9) × (told .buffer ≡ b)
+
+-- "no match" when no reading exists; else every reading with the greatest exact count, each once, and nothing else
+pub data Demand3 (s : Scene) (b : List ℕ) (told : Told) : Type 0 where
+  no-match : ((t : Tree) → Reading s t → ⊥) → (told .number ≡ 1) × (told .words ≡ 0) × (told .buffer ≡ b) → Demand3 s b told
+  listed : (best : Best s) → Tells best b told → Demand3 s b told

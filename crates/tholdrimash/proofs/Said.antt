@@ -19,3 +19,6 @@ reads-of s b e d = subst (Demand3 s b) (sym e) d
 
 pub visits-of : {r q : Told} {n : ℕ} → r ≡ q → q .visits ≤ n → r .visits ≤ n
 visits-of {n = n} e h = subst (λ (x : Told). x .visits ≤ n) (sym e) h
+
+pub tells-of : {r q : Told} {n m : ℕ} → r ≡ q → (q .number ≡ n) × (q .words ≡ m) → (r .number ≡ n) × (r .words ≡ m)
+tells-of e (h, k) = (ap (λ (x : Told). x .number) e ∙ h, ap (λ (x : Told). x .words) e ∙ k)

@@ -86,6 +86,7 @@ pub extern "C" fn tholdrimash_lookup(
     ensures answers { λ r. ⌜ told r (now (answer .exit)) ≡ lookupCall (now (table .entry)) (now (line .entry)) (now (sheet .entry)) budget (now (answer .entry)) ⌝ }
     ensures readings { λ r. ⌜ (Accepted (now (table .entry)) (now (line .entry)) (now (sheet .entry)) budget → Within (now (table .entry)) (now (line .entry)) (now (sheet .entry)) budget → Demand3 (sceneOf (now (table .entry)) (now (line .entry)) (now (sheet .entry))) (now (answer .entry)) (told r (now (answer .exit)))) ⌝ }
     ensures visits { λ r. ⌜ (Accepted (now (table .entry)) (now (line .entry)) (now (sheet .entry)) budget → Within (now (table .entry)) (now (line .entry)) (now (sheet .entry)) budget → r .visits ≤ scanCall (now (table .entry)) (now (line .entry)) (now (sheet .entry)) budget (now (answer .entry)) .visits) ⌝ }
+    ensures agrees { λ r. ⌜ (Accepted (now (table .entry)) (now (line .entry)) (now (sheet .entry)) budget → Within (now (table .entry)) (now (line .entry)) (now (sheet .entry)) budget → (r .number ≡ scanCall (now (table .entry)) (now (line .entry)) (now (sheet .entry)) budget (now (answer .entry)) .number) × (r .words ≡ scanCall (now (table .entry)) (now (line .entry)) (now (sheet .entry)) budget (now (answer .entry)) .words)) ⌝ }
 {
     fields(matcher::match_with_ruledef_map(table, line, sheet, budget, answer))
 }

@@ -16,7 +16,7 @@ same-length c = search needs
 
 -- src/lib.rt:216:1
 returns : tie.Need-returns
-returns c = (c .before .before .call .ensures, scan-reads _ _ _ _ _ _ (c .before .before .call .ensures))
+returns c = (search needs, scan-reads _ _ _ _ _ _ (c .before .before .call .ensures))
 
 pub match-instr-spec : {M : Type 1} → statement M
 match-instr-spec = tie.close (tie.spec call-requires same-length returns)

@@ -1,4 +1,4 @@
-use Rattle.matcher.proofs.Telling.{lookup-reads, lookup-visits}
+use Rattle.matcher.proofs.Telling.{lookup-reads, lookup-visits, lookup-tells}
 use borrow.Author.Needs.{needs}
 use Rattle.matcher.proofs.match_with_ruledef_map.Statement.{statement}
 use Rattle.matcher.proofs.match_with_ruledef_map.Tie as tie
@@ -16,7 +16,13 @@ same-length c = search needs
 
 -- src/lib.rt:224:1
 returns : tie.Need-returns
-returns c = (c .before .before .call .ensures, (lookup-reads _ _ _ _ _ _ (c .before .before .call .ensures), lookup-visits _ _ _ _ _ _ (c .before .before .call .ensures)))
+returns c = (
+  search needs,
+  (
+    lookup-reads _ _ _ _ _ _ (c .before .before .call .ensures),
+    (lookup-visits _ _ _ _ _ _ (c .before .before .call .ensures), lookup-tells _ _ _ _ _ _ (c .before .before .call .ensures)),
+  ),
+)
 
 pub match-with-ruledef-map-spec : {M : Type 1} → statement M
 match-with-ruledef-map-spec = tie.close (tie.spec call-requires same-length returns)

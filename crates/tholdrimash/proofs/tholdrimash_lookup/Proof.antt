@@ -1,5 +1,5 @@
 use mathlib.Core.Path.{_∙_}
-use Rattle.tholdrimash.proofs.Said.{reads-of, visits-of}
+use Rattle.tholdrimash.proofs.Said.{reads-of, visits-of, tells-of}
 use borrow.Author.Needs.{needs}
 use Rattle.tholdrimash.proofs.tholdrimash_lookup.Statement.{statement}
 use Rattle.tholdrimash.proofs.tholdrimash_lookup.Tie as tie
@@ -26,7 +26,10 @@ returns c = (
   c .fields .ensures _ ∙ c .before .before .before .match-with-ruledef-map .ensures .0,
   (
     (λ ok w. reads-of _ _ (c .fields .ensures _) (c .before .before .before .match-with-ruledef-map .ensures .1 .0 ok w)),
-    λ ok w. visits-of (c .fields .ensures _) (c .before .before .before .match-with-ruledef-map .ensures .1 .1 ok w),
+    (
+      (λ ok w. visits-of (c .fields .ensures _) (c .before .before .before .match-with-ruledef-map .ensures .1 .1 .0 ok w)),
+      λ ok w. tells-of (c .fields .ensures _) (c .before .before .before .match-with-ruledef-map .ensures .1 .1 .1 ok w),
+    ),
   ),
 )
 
