@@ -6,7 +6,7 @@ use mathlib.Core.List.{List}
 use Prim.Native.Nat.{ℕ}
 use Rattle.plain.proofs.Answers.{one-answer}
 use Rattle.syntax.specs.declared.walker.Walker.{Walker}
-use Rattle.syntax.specs.Walker.{held, over, limited, useful, expectChar, expectWhitespace}
+use Rattle.syntax.specs.Walker.{held, over, movedTo, limited, useful, expectChar, expectWhitespace}
 use Rattle.syntax.specs.Cut.{cut}
 use Rattle.defs.specs.RuledefMap.{linePrefix, heldPrefix, prefixBytes, foundRules, putRules}
 use Rattle.probe.specs.declared.ProbeWalker.{ProbeWalker}
@@ -18,8 +18,8 @@ same-ends : {r s : ProbeWalker} {w : Walker} → ends r ≡ w → ends s ≡ w �
 same-ends p q = ap (λ (w : Walker). record { cursor = w .cursor; limit = w .limit }) (p ∙ sym q)
 
 module _ (line : List ℕ) (w : Walker) where
-  pub hold-tight : (r s : ProbeWalker) → ends r ≡ held line w → ends s ≡ held line w → r ≡ s
-  hold-tight r s = same-ends
+  pub set-cursor-index-tight : (place : ℕ) (r s : ProbeWalker) → ends r ≡ movedTo line place (held line w) → ends s ≡ movedTo line place (held line w) → r ≡ s
+  set-cursor-index-tight place r s = same-ends
 
   pub set-cursor-limit-tight : (end : ℕ) (r s : ProbeWalker) → ends r ≡ limited line end (held line w) → ends s ≡ limited line end (held line w) → r ≡ s
   set-cursor-limit-tight end r s = same-ends

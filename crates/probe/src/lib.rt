@@ -5,7 +5,7 @@ use syntax::walker::Lookahead;
 use syntax::walker::Step;
 use syntax::walker::Walker;
 ghost use mathlib.Core.Path.{_≡_};
-ghost use Rattle.syntax.specs.Walker.{held, over, limited, useful, expectChar, expectWhitespace};
+ghost use Rattle.syntax.specs.Walker.{held, over, movedTo, limited, useful, expectChar, expectWhitespace};
 ghost use Rattle.syntax.specs.Cut.{cut};
 ghost use Rattle.defs.specs.RuledefMap.{linePrefix, heldPrefix, prefixBytes, foundRules, putRules};
 ghost use Rattle.probe.specs.Probe.{at, ends, stepped, placed};
@@ -25,11 +25,16 @@ pub struct ProbePlace {
 }
 
 #[no_mangle]
-pub extern "C" fn probe_hold(line: &[u8], cursor: usize, limit: usize) -> ProbeWalker
-    ensures answers { λ r. ⌜ ends r ≡ held (now (line .entry)) (at cursor limit) ⌝ }
+pub extern "C" fn probe_set_cursor_index(
+    line: &[u8],
+    cursor: usize,
+    limit: usize,
+    place: usize,
+) -> ProbeWalker
+    ensures answers { λ r. ⌜ ends r ≡ movedTo (now (line .entry)) place (held (now (line .entry)) (at cursor limit)) ⌝ }
 {
     let here = Walker { cursor, limit };
-    let moved = here.hold(line);
+    let moved = here.set_cursor_index(line, place);
     ProbeWalker {
         cursor: moved.cursor,
         limit: moved.limit,

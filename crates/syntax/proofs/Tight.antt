@@ -8,7 +8,7 @@ use native.Mathlib.Omega.{arith}
 use lib.ListN.{length}
 use Rattle.plain.proofs.Answers.{one-answer, one-told}
 use Rattle.syntax.specs.Token.{isWhitespace, lowered, sameLetter}
-use Rattle.syntax.specs.Walker.{held, over, limited, useful, stepSays, expectChar, expectWhitespace}
+use Rattle.syntax.specs.Walker.{held, over, movedTo, limited, useful, stepSays, expectChar, expectWhitespace}
 use Rattle.syntax.specs.Cut.{cutSays, cut}
 use Rattle.syntax.specs.Line.{lineSays, lineVerdict}
 use Rattle.syntax.specs.declared.walker.Walker.{Walker}
@@ -55,9 +55,6 @@ module _ (line : List ℕ) where
   new-tight r s p q = λ i. record { cursor = one-answer (p .0) (q .0) i; limit = one-answer (p .1) (q .1) i }
 
   module _ (w : Walker) where
-    pub hold-tight : (r s : Walker) → r ≡ held line w → s ≡ held line w → r ≡ s
-    hold-tight r s = one-answer
-
     pub is-over-tight : (r s : Bool) → r ≡ over (held line w) → s ≡ over (held line w) → r ≡ s
     is-over-tight r s = one-answer
 
@@ -66,6 +63,9 @@ module _ (line : List ℕ) where
 
     pub get-cursor-limit-tight : (r s : ℕ) → r ≡ w .limit → s ≡ w .limit → r ≡ s
     get-cursor-limit-tight r s = one-answer
+
+    pub set-cursor-index-tight : (at : ℕ) (r s : Walker) → r ≡ movedTo line at (held line w) → s ≡ movedTo line at (held line w) → r ≡ s
+    set-cursor-index-tight at r s = one-answer
 
     pub set-cursor-limit-tight : (end : ℕ) (r s : Walker) → r ≡ limited line end (held line w) → s ≡ limited line end (held line w) → r ≡ s
     set-cursor-limit-tight end r s = one-answer

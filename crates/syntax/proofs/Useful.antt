@@ -12,7 +12,7 @@ use lib.Seq.{slice-empty, slice-cons}
 use Rattle.plain.specs.Choice.{select}
 use Rattle.plain.proofs.Tests.{tested, not-both}
 use Rattle.syntax.specs.Token.{isWhitespace}
-use Rattle.syntax.specs.Walker.{byteAt, held, UsefulPlace, skipped, usefulFrom, useful}
+use Rattle.syntax.specs.Walker.{byteAt, held, movedTo, limited, UsefulPlace, skipped, usefulFrom, useful}
 use Rattle.syntax.specs.declared.walker.Walker.{Walker}
 
 module _ (line : List ℕ) (l : ℕ) (fits : l ≤ length line) where
@@ -91,6 +91,17 @@ held-same line w h =
     let l : min (w .limit) (length line) ≡ w .limit = omega arith in
     let c : min (w .cursor) (min (w .limit) (length line)) ≡ w .cursor = omega arith in
     λ i. record { cursor = c i; limit = l i }
+
+-- so a walker within its line moves to a place below its limit, and takes a limit between its place and the line's end
+pub index-set : (line : List ℕ) (w : Walker) (at : ℕ) → Within line w → at ≤ w .limit
+    → movedTo line at (held line w) ≡ record { cursor = at; limit = w .limit }
+unfolding movedTo
+index-set line w at h k = ap (movedTo line at) (held-same line w h) ∙ held-same line _ (k, h .1)
+
+pub limit-set : (line : List ℕ) (w : Walker) (end : ℕ) → Within line w → w .cursor ≤ end → end ≤ length line
+    → limited line end (held line w) ≡ record { cursor = w .cursor; limit = end }
+unfolding limited
+limit-set line w end h k l = ap (limited line end) (held-same line w h) ∙ held-same line _ (k, l)
 
 -- the scan finds the useful place
 pub useful-is : (line : List ℕ) (w : Walker) → Within line w → UsefulPlace line w (useful line w)

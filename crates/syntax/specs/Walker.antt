@@ -28,6 +28,10 @@ held line w = record {
 unfoldable pub over : Walker → Bool
 over w = leb (w .limit) (w .cursor)
 
+-- another place with the same limit, held again
+unfoldable pub movedTo : List ℕ → ℕ → Walker → Walker
+movedTo line at w = held line (record { cursor = at; limit = w .limit })
+
 -- the same place with another limit, held again
 unfoldable pub limited : List ℕ → ℕ → Walker → Walker
 limited line end w = held line (record { cursor = w .cursor; limit = end })

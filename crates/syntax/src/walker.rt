@@ -6,7 +6,7 @@ ghost use mathlib.Core.Path.{_≡_};
 ghost use mathlib.Core.Bool.{_||_};
 ghost use Prim.Native.Nat.{_+_, _<_, _≤_, _^_, min};
 ghost use lib.ListN.{length};
-ghost use Rattle.syntax.specs.Walker.{held, over, limited, usefulFrom, useful, stepSays, expectChar, expectWhitespace};
+ghost use Rattle.syntax.specs.Walker.{held, over, movedTo, limited, usefulFrom, useful, stepSays, expectChar, expectWhitespace};
 ghost use Rattle.syntax.specs.Cut.{isSolid, isWanted, fresh, turnOf, cutSays, cutFrom, cut};
 
 const OPEN_PAREN: u8 = 40;
@@ -64,7 +64,7 @@ impl Walker {
     }
 
     // Within the line: first the limit to its end, then the cursor to the limit.
-    pub fn hold(self, line: &[u8]) -> Walker
+    fn hold(self, line: &[u8]) -> Walker
         ensures answers { λ r. ⌜ r ≡ held (now (line .entry)) self ⌝ }
     {
         let limit = least(self.limit, line.len());
@@ -90,6 +90,18 @@ impl Walker {
         ensures answers { λ r. ⌜ r ≡ self .limit ⌝ }
     {
         self.limit
+    }
+
+    // Another place with the same limit, held to it.
+    pub fn set_cursor_index(self, line: &[u8], at: usize) -> Walker
+        ensures answers { λ r. ⌜ r ≡ movedTo (now (line .entry)) at (held (now (line .entry)) self) ⌝ }
+    {
+        let here = self.hold(line);
+        let moved = Walker {
+            cursor: at,
+            limit: here.limit,
+        };
+        moved.hold(line)
     }
 
     // The same place with another limit, held to the line.
