@@ -20,7 +20,7 @@ treesIn store used = map tree (gathered 0 (entries store used))
 unfoldable pub treesTo : List ℕ → ℕ → ℕ → List Tree
 treesTo store used i = map tree (gathered 0 (take i (entries store used)))
 
--- what is known of them: their counts fit, and their words (at most 3 a record, of 4,096 records)
+-- what is known of them: their counts fit, and their words (at most 3 a record)
 pub record Bounded (t store : List ℕ) (used : ℕ) : Type 0 where
   pub counts : (u : Tree) → List·Memᴰ u (treesIn store used) → exactCount (sceneOf t [] []) u ≤ 65535
   pub words : (u : Tree) → List·Memᴰ u (treesIn store used) → length (treeWords u) ≤ 12288

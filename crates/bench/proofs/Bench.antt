@@ -4,7 +4,7 @@ use mathlib.Core.List.{[], _∷_, flatMap}
 use Rattle.plain.specs.Below.{everyBelow, sumBelow, countBelow}
 use Rattle.plain.specs.Lists.{range, keepIf, some-of, count, listed}
 use Rattle.syntax.specs.Token.{isWhitespace, lowered}
-use Rattle.syntax.specs.Walker.{held, over, skipped, usefulFrom, useful, gap}
+use Rattle.syntax.specs.Walker.{held, over, skipped, usefulFrom, useful, expectChar, gap}
 use Rattle.syntax.specs.Cut.{isWanted, isStray, nesting, passedTo, takenIn, turnOf, searched, cutFrom, cut}
 use Rattle.syntax.specs.Line.{isAllowed, firstBad, endsOpen, faultAt}
 use Rattle.defs.specs.Table.{wordAt, flagAt, fieldAt, partWordAt, partOf, ruleFrom, ruleWords, ruleParts, inRange, sizesFit, lengthFits, flagsFit, rulesetBefore, rulesetFits, rulesetsFit, rangeFits, rangesFit, countsFit, parametersIn, parametersFit, isPart, partsFit, tableFits}
@@ -13,7 +13,7 @@ use Rattle.defs.specs.RuledefMap.{leading, rulePrefix, linePrefix}
 use Rattle.extents.specs.Sheet.{sized, entryAt, entryFits, fitsAt, rowFits, halfFits, sheetFits, readable, endIn}
 use Rattle.readings.specs.Scene.{sceneOf}
 use Rattle.readings.specs.Plan.{run, _then_, each, mapped}
-use Rattle.readings.specs.Walk.{past, lookahead, cutFor, candidates, anySame, fresh, firsts, ends, limits, walk, rulesetWalk, under, trial, tries, topPairs, scan}
+use Rattle.readings.specs.Walk.{exactly, lookahead, cutFor, candidates, anySame, fresh, firsts, ends, limits, walk, rulesetWalk, under, trial, tries, topPairs, scan}
 use Rattle.readings.specs.Lookup.{withPrefix, foundPairs, lookup}
 use Rattle.readings.specs.Answer.{exactParts, greatest, greatestCount, best, allWords, wordsOf}
 use Rattle.readings.specs.Call.{budgetFits, callWith}
@@ -49,5 +49,5 @@ pub bench :
     ∷ (13 ∷ 2 ∷ 134 ∷ 70 ∷ 70 ∷ 9 ∷ 9 ∷ 9 ∷ [])
     ∷ (0 ∷ 2 ∷ 134 ∷ 70 ∷ 70 ∷ 1 ∷ 2 ∷ 9 ∷ [])
     ∷ []
-unfolding cases flatMap everyBelow sumBelow countBelow range keepIf some-of count listed isWhitespace lowered held over skipped usefulFrom useful gap isWanted isStray nesting passedTo takenIn turnOf searched cutFrom cut isAllowed firstBad endsOpen faultAt wordAt flagAt fieldAt partWordAt partOf ruleFrom ruleWords ruleParts inRange sizesFit lengthFits flagsFit rulesetBefore rulesetFits rulesetsFit rangeFits rangesFit countsFit parametersIn parametersFit isPart partsFit tableFits recordsOf isTop rulesetOf leading rulePrefix linePrefix sized entryAt entryFits fitsAt rowFits halfFits sheetFits readable endIn lookahead sceneOf run _then_ each mapped past cutFor candidates anySame fresh firsts ends limits walk rulesetWalk under trial tries topPairs scan withPrefix foundPairs lookup exactParts greatest greatestCount best allWords wordsOf budgetFits callWith ofKind outcomeOf isBad outcomesOf wordOf isGuess isResolved isKnown sizeOf asGuess marked lesser leastSize sameSize hasSize indicesOf choiceOf answerOn answerOf selected
+unfolding cases flatMap everyBelow sumBelow countBelow range keepIf some-of count listed isWhitespace lowered held over skipped usefulFrom useful gap isWanted isStray nesting passedTo takenIn turnOf searched cutFrom cut isAllowed firstBad endsOpen faultAt wordAt flagAt fieldAt partWordAt partOf ruleFrom ruleWords ruleParts inRange sizesFit lengthFits flagsFit rulesetBefore rulesetFits rulesetsFit rangeFits rangesFit countsFit parametersIn parametersFit isPart partsFit tableFits recordsOf isTop rulesetOf leading rulePrefix linePrefix sized entryAt entryFits fitsAt rowFits halfFits sheetFits readable endIn lookahead sceneOf run _then_ each mapped exactly expectChar cutFor candidates anySame fresh firsts ends limits walk rulesetWalk under trial tries topPairs scan withPrefix foundPairs lookup exactParts greatest greatestCount best allWords wordsOf budgetFits callWith ofKind outcomeOf isBad outcomesOf wordOf isGuess isResolved isKnown sizeOf asGuess marked lesser leastSize sameSize hasSize indicesOf choiceOf answerOn answerOf selected
 bench = refl

@@ -35,11 +35,11 @@ module _ (t line sheet other : List ℕ) (l c : ℕ) (ps : List Part) where
 
 module _ (s : Scene) (l c : ℕ) (ps : List Part) where
   abbrev same : ℕ → ℕ → Bool
-  same = sameEnd s l
+  same = sameEnd (s .line) l
 
-  pub ends-added : ends s l c ps ≡ added same (added same (added same [] (s .free c l)) (freeUnder s c (cutFor s l c ps))) (s .greedy c l)
+  pub ends-added : ends s l c ps ≡ added same (added same (added same [] (s .free c l)) (freeUnder (s .free) c (cutFor s l c ps))) (s .greedy c l)
   unfolding ends candidates firsts fresh
-  ends-added = whole (s .free c l) (freeUnder s c (cutFor s l c ps)) (s .greedy c l)
+  ends-added = whole (s .free c l) (freeUnder (s .free) c (cutFor s l c ps)) (s .greedy c l)
     where
       whole : (a b g : Option ℕ) → firsts same (listOf a ++ (listOf b ++ listOf g)) ≡ added same (added same (added same [] a) b) g
       whole a b g =
@@ -52,8 +52,8 @@ module _ (s : Scene) (l c : ℕ) (ps : List Part) where
   pub ends-few : length (ends s l c ps) ≤ 3
   ends-few =
       let one = added-few same [] (s .free c l) in
-      let two = added-few same (added same [] (s .free c l)) (freeUnder s c (cutFor s l c ps)) in
-      let three = added-few same (added same (added same [] (s .free c l)) (freeUnder s c (cutFor s l c ps))) (s .greedy c l) in
+      let two = added-few same (added same [] (s .free c l)) (freeUnder (s .free) c (cutFor s l c ps)) in
+      let three = added-few same (added same (added same [] (s .free c l)) (freeUnder (s .free) c (cutFor s l c ps))) (s .greedy c l) in
       omega (arith, ap length ends-added)
 
   pub limits-few : (1 ≤ length (limits s l c ps)) × (length (limits s l c ps) ≤ 2)

@@ -4,7 +4,7 @@ use mathlib.Core.Path.{_≡_, refl, sym, ap, _∙_}
 use mathlib.Core.Bool.{Bool, true, false, _||_}
 use mathlib.Core.List.{List, [], _∷_, _++_, append-nil}
 use mathlib.Core.Option.{Option, none, some}
-use Prim.Native.Nat.{ℕ, zero, suc, _+_, _≤_, _<_}
+use Prim.Native.Nat.{ℕ, zero, suc, _+_, _≤_, _<_, min}
 use native.Mathlib.Numerals.{add-one}
 use native.Mathlib.Omega.{arith}
 use lib.ListN.{length, getD, take, set, length-take, length-append, drop-of-length-le}
@@ -12,7 +12,8 @@ use lib.Seq.{slice, drop-cons, ext-getD, getD-at, getD-take}
 use borrow.Author.Tests.{eq-eqb, ne-eqb}
 use Rattle.plain.specs.Lists.{range, listed}
 use Rattle.plain.proofs.Lists.{listed-length, listed-at, listed-set}
-use Rattle.syntax.specs.Walker.{useful}
+use Rattle.syntax.specs.Walker.{held, movedTo, useful}
+use Rattle.syntax.specs.declared.walker.Walker.{Walker}
 use Rattle.syntax.specs.Cut.{cutSays}
 use Rattle.syntax.specs.declared.walker.Lookahead.{Lookahead}
 use Rattle.syntax.specs.declared.walker.Lookahead.the-variants.{At, Nothing}
@@ -21,8 +22,8 @@ use Rattle.extents.specs.Sheet.{freeEnd, greedyEnd, endOf}
 use Rattle.extents.specs.declared.Extent.{Extent}
 use Rattle.extents.specs.declared.Extent.the-variants as Extent
 use Rattle.readings.specs.Scene.{Scene, walkerAt, sceneOf}
-use Rattle.readings.specs.Walk.{lookahead, cutBy, cutFor, listOf, unless, anySame, freeUnder, ends, limits}
-use Rattle.lookahead.specs.Held.{charSays, heldEnds, heldLimits, samePlace, added, freeTo}
+use Rattle.readings.specs.Walk.{lookahead, cutBy, cutFor, listOf, unless, anySame, sameEnd, freeUnder, ends, limits}
+use Rattle.lookahead.specs.Held.{charSays, heldEnds, heldLimits, added}
 use Rattle.lookahead.specs.declared.Character.{Character}
 use Rattle.lookahead.specs.declared.Ends.{Ends}
 use Rattle.lookahead.specs.declared.Limits.{Limits}
@@ -53,13 +54,23 @@ module _ (n : ℕ) (es : List ℕ) where
 
 -- ---- the search for a duplicate
 
+-- a walker moved to an end is the one at that end under the same limit
+pub moved-held : (line : List ℕ) (w there : Walker) (end : ℕ) → there ≡ movedTo line end (held line w) → held line there ≡ walkerAt line (w .limit) end
+unfolding movedTo held
+moved-held line w there end is = ap (held line) is ∙ same
+  where
+    same : held line (held line (record { cursor = end; limit = min (w .limit) (length line) })) ≡ held line (record { cursor = end; limit = w .limit })
+    same =
+        let n = length line in
+        let l : min (min (min (w .limit) n) n) n ≡ min (w .limit) n = omega arith in
+        let c : min (min end (min (min (w .limit) n) n)) (min (min (min (w .limit) n) n) n) ≡ min end (min (w .limit) n) = omega arith in
+        λ i. record { cursor = c i; limit = l i }
+
 module _ (line : List ℕ) (l d e p q : ℕ) (here : p ≡ useful line (walkerAt line l d)) (there : q ≡ useful line (walkerAt line l e)) where
-  pub place-same : p ≡ q → samePlace line l d e ≡ true
-  unfolding samePlace
+  pub place-same : p ≡ q → sameEnd line l d e ≡ true
   place-same h = eq-eqb _ _ (sym here ∙ h ∙ there)
 
-  pub place-other : (p ≡ q → ⊥) → samePlace line l d e ≡ false
-  unfolding samePlace
+  pub place-other : (p ≡ q → ⊥) → sameEnd line l d e ≡ false
   place-other n = ne-eqb _ _ (λ h. n (here ∙ h ∙ sym there))
 
 -- what the ends from here on tell, all tell
@@ -136,13 +147,11 @@ module _ (s : Scene) (l c : ℕ) (ps : List Part) (x : Character) (is : charSays
   cut-of y e = ap (cutBy s l c) (ap charSays (sym e) ∙ is)
 
 module _ (sheet : List ℕ) (n c : ℕ) (cut : Lookahead) where
-  pub free-at : (m : ℕ) → cut ≡ At m → freeEnd sheet n c m ≡ freeTo sheet n c (cutSays cut)
-  unfolding freeTo
-  free-at m e = ap (λ (x : Lookahead). freeTo sheet n c (cutSays x)) (sym e)
+  pub free-at : (m : ℕ) → cut ≡ At m → freeEnd sheet n c m ≡ freeUnder (freeEnd sheet n) c (cutSays cut)
+  free-at m e = ap (λ (x : Lookahead). freeUnder (freeEnd sheet n) c (cutSays x)) (sym e)
 
-  pub free-none : cut ≡ Nothing → none ≡ freeTo sheet n c (cutSays cut)
-  unfolding freeTo
-  free-none e = ap (λ (x : Lookahead). freeTo sheet n c (cutSays x)) (sym e)
+  pub free-none : cut ≡ Nothing → none ≡ freeUnder (freeEnd sheet n) c (cutSays cut)
+  free-none e = ap (λ (x : Lookahead). freeUnder (freeEnd sheet n) c (cutSays x)) (sym e)
 
 -- ---- the ends
 
@@ -160,25 +169,28 @@ module _ (same : ℕ → ℕ → Bool) (a : Option ℕ) (x : Ends) where
   unfolding heldEnds
   room-three b is = omega (arith, ap (λ (y : Ends). y .count) is, added-few same [] a, added-few same (added same [] a) b)
 
-module _ (t line sheet : List ℕ) (l c : ℕ) (ps : List Part) (a b g : Extent) (cut : Lookahead)
+module _ (t line sheet : List ℕ) (w : Walker) (l c : ℕ) (limit-is : l ≡ w .limit) (cursor-is : c ≡ w .cursor) (ps : List Part) (a b g : Extent) (cut : Lookahead)
     (first : endOf a ≡ freeEnd sheet (length line) c l)
-    (at : cutSays cut ≡ cutFor (sceneOf t line []) l c ps)
-    (second : endOf b ≡ freeTo sheet (length line) c (cutSays cut))
+    (at : cutSays cut ≡ cutFor (sceneOf t line []) (w .limit) (w .cursor) ps)
+    (second : endOf b ≡ freeUnder (freeEnd sheet (length line)) c (cutSays cut))
     (third : endOf g ≡ greedyEnd sheet (length line) c l) where
   abbrev same : ℕ → ℕ → Bool
-  same = samePlace line l
+  same = sameEnd line (w .limit)
 
-  under : (o : Option ℕ) → freeTo sheet (length line) c o ≡ freeUnder (sceneOf t line sheet) c o
-  unfolding freeTo sceneOf
-  under none = refl
-  under (some m) = refl
+  first-is : endOf a ≡ freeEnd sheet (length line) (w .cursor) (w .limit)
+  first-is = cc
 
-  second-is : endOf b ≡ freeUnder (sceneOf t line sheet) c (cutFor (sceneOf t line sheet) l c ps)
-  second-is = second ∙ under (cutSays cut) ∙ ap (freeUnder (sceneOf t line sheet) c) (at ∙ sheet-free t line [] sheet l c ps)
+  second-is : endOf b ≡ freeUnder (freeEnd sheet (length line)) (w .cursor) (cutFor (sceneOf t line sheet) (w .limit) (w .cursor) ps)
+  second-is =
+      second ∙ ap (λ (n : ℕ). freeUnder (freeEnd sheet (length line)) n (cutSays cut)) cursor-is
+      ∙ ap (freeUnder (freeEnd sheet (length line)) (w .cursor)) (at ∙ sheet-free t line [] sheet (w .limit) (w .cursor) ps)
 
-  pub ends-held : heldEnds (added same (added same (added same [] (endOf a)) (endOf b)) (endOf g)) ≡ heldEnds (ends (sceneOf t line sheet) l c ps)
-  unfolding sceneOf samePlace
-  ends-held = cc (second-is, ends-added (sceneOf t line sheet) l c ps)
+  third-is : endOf g ≡ greedyEnd sheet (length line) (w .cursor) (w .limit)
+  third-is = cc
+
+  pub ends-held : heldEnds (added same (added same (added same [] (endOf a)) (endOf b)) (endOf g)) ≡ heldEnds (ends (sceneOf t line sheet) (w .limit) (w .cursor) ps)
+  unfolding sceneOf
+  ends-held = cc (first-is, second-is, third-is, ends-added (sceneOf t line sheet) (w .limit) (w .cursor) ps)
 
 -- ---- the limits
 
@@ -187,10 +199,11 @@ module _ (s : Scene) (l c : ℕ) (ps : List Part) (cut : Lookahead) (at : cutSay
   unfolding limits
   told o is = ap (λ (x : Option ℕ). heldLimits (l ∷ listOf x)) (ap cutSays (sym is) ∙ at)
 
-  pub limits-cut : (m : ℕ) → cut ≡ At m → _≡_ {A = Limits} (record { count = 2; places = l ∷ m ∷ [] }) (heldLimits (limits s l c ps))
-  unfolding heldLimits listed range
-  limits-cut m is = told (At m) is
+  module _ (k : ℕ) (limit-is : k ≡ l) where
+    pub limits-cut : (m : ℕ) → cut ≡ At m → _≡_ {A = Limits} (record { count = 2; places = k ∷ m ∷ [] }) (heldLimits (limits s l c ps))
+    unfolding heldLimits listed range
+    limits-cut m is = ap (λ (n : ℕ). record { count = 2; places = n ∷ m ∷ [] }) limit-is ∙ told (At m) is
 
-  pub limits-whole : cut ≡ Nothing → _≡_ {A = Limits} (record { count = 1; places = l ∷ 0 ∷ [] }) (heldLimits (limits s l c ps))
-  unfolding heldLimits listed range
-  limits-whole is = told Nothing is
+    pub limits-whole : cut ≡ Nothing → _≡_ {A = Limits} (record { count = 1; places = k ∷ 0 ∷ [] }) (heldLimits (limits s l c ps))
+    unfolding heldLimits listed range
+    limits-whole is = ap (λ (n : ℕ). record { count = 1; places = n ∷ 0 ∷ [] }) limit-is ∙ told Nothing is

@@ -3,12 +3,8 @@ use mathlib.Core.Bool.{Bool}
 use mathlib.Core.List.{List, [], _++_}
 use mathlib.Core.Option.{Option, none, some}
 use Prim.Native.Nat.{ℕ}
-use lib.Dec.{eqb}
 use lib.ListN.{length, getD}
 use Rattle.plain.specs.Lists.{listed}
-use Rattle.syntax.specs.Walker.{useful}
-use Rattle.extents.specs.Sheet.{freeEnd}
-use Rattle.readings.specs.Scene.{walkerAt}
 use Rattle.readings.specs.Walk.{anySame, unless}
 use Rattle.lookahead.specs.declared.Character.{Character}
 use Rattle.lookahead.specs.declared.Character.the-variants.{Found, Nothing}
@@ -28,16 +24,7 @@ heldEnds es = record { count = length es; places = listed 3 (λ j. getD es j 0) 
 unfoldable pub heldLimits : List ℕ → Limits
 heldLimits es = record { count = length es; places = listed 2 (λ j. getD es j 0) }
 
--- "ends with the same useful place under l"
-unfoldable pub samePlace : List ℕ → ℕ → ℕ → ℕ → Bool
-samePlace line l d e = eqb (useful line (walkerAt line l d)) (useful line (walkerAt line l e))
-
 -- "only the first stays": one candidate more, if there is one, and if it is the same as none that stayed
 unfoldable pub added : (ℕ → ℕ → Bool) → List ℕ → Option ℕ → List ℕ
 added same es none = es
 added same es (some e) = es ++ unless (anySame same es e) e []
-
--- "free(c, cut) if there is a cut"
-unfoldable pub freeTo : List ℕ → ℕ → ℕ → Option ℕ → Option ℕ
-freeTo sheet n c none = none
-freeTo sheet n c (some m) = freeEnd sheet n c m

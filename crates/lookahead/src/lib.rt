@@ -14,10 +14,10 @@ ghost use lib.ListN.{length, take};
 ghost use Rattle.syntax.specs.Walker.{useful};
 ghost use Rattle.syntax.specs.Cut.{cutSays};
 ghost use Rattle.defs.specs.Table.{partsBetween};
-ghost use Rattle.extents.specs.Sheet.{endOf};
+ghost use Rattle.extents.specs.Sheet.{endOf, freeEnd};
 ghost use Rattle.readings.specs.Scene.{walkerAt, sceneOf};
-ghost use Rattle.readings.specs.Walk.{lookahead, cutFor, anySame, ends, limits};
-ghost use Rattle.lookahead.specs.Held.{charSays, heldEnds, heldLimits, samePlace, added, freeTo};
+ghost use Rattle.readings.specs.Walk.{lookahead, cutFor, freeUnder, anySame, sameEnd, ends, limits};
+ghost use Rattle.lookahead.specs.Held.{charSays, heldEnds, heldLimits, added};
 
 // How many limits there are with a cut.
 const WITH_CUT: usize = 2;
@@ -79,23 +79,23 @@ pub fn find_cut(table: &[u16], line: &[u8], walker: Walker, at: usize, end: usiz
     }
 }
 
-// The useful place of an end under the limit.
-fn useful_place(line: &[u8], limit: usize, end: usize) -> usize
-    ensures { λ r. ⌜ r ≡ useful (now (line .entry)) (walkerAt (now (line .entry)) limit end) ⌝ }
+// The useful place of an end under the walker's limit.
+fn useful_place(line: &[u8], walker: Walker, end: usize) -> usize
+    ensures { λ r. ⌜ r ≡ useful (now (line .entry)) (walkerAt (now (line .entry)) (walker .limit) end) ⌝ }
 {
-    let walker = Walker { cursor: end, limit };
-    walker.next_useful_index(line)
+    let there = walker.set_cursor_index(line, end);
+    there.next_useful_index(line)
 }
 
 // Whether one of the ends has the same useful place under the limit.
-fn is_duplicate(line: &[u8], limit: usize, ends: Ends, end: usize) -> bool
+fn is_duplicate(line: &[u8], walker: Walker, ends: Ends, end: usize) -> bool
     requires { ⌜ ends .count ≤ 3 ⌝ }
-    ensures { λ r. ⌜ r ≡ anySame (samePlace (now (line .entry)) limit) (take (ends .count) (ends .places)) end ⌝ }
+    ensures { λ r. ⌜ r ≡ anySame (sameEnd (now (line .entry)) (walker .limit)) (take (ends .count) (ends .places)) end ⌝ }
 {
-    let place = useful_place(line, limit, end);
+    let place = useful_place(line, walker, end);
     let mut i: usize = 0;
     while i < ends.count {
-        if useful_place(line, limit, ends.places[i]) == place {
+        if useful_place(line, walker, ends.places[i]) == place {
             return true;
         }
         i += 1;
@@ -105,15 +105,15 @@ fn is_duplicate(line: &[u8], limit: usize, ends: Ends, end: usize) -> bool
 
 // One candidate more: it stays unless one before it has the same useful place. Those that did not stay need no look, since
 // one that stayed has their useful place.
-fn add_end(line: &[u8], limit: usize, ends: Ends, extent: Extent) -> Ends
+fn add_end(line: &[u8], walker: Walker, ends: Ends, extent: Extent) -> Ends
     requires { ⌜ ends .count < 3 ⌝ }
-    ensures { λ r. ⌜ ((es : List ℕ) → ends ≡ heldEnds es → r ≡ heldEnds (added (samePlace (now (line .entry)) limit) es (endOf extent))) ⌝ }
+    ensures { λ r. ⌜ ((es : List ℕ) → ends ≡ heldEnds es → r ≡ heldEnds (added (sameEnd (now (line .entry)) (walker .limit)) es (endOf extent))) ⌝ }
 {
     let end = match extent {
         Extent::Ends(end) => end,
         Extent::Nothing => return ends,
     };
-    if is_duplicate(line, limit, ends, end) {
+    if is_duplicate(line, walker, ends, end) {
         return ends;
     }
     let count = ends.count;
@@ -127,7 +127,7 @@ fn add_end(line: &[u8], limit: usize, ends: Ends, extent: Extent) -> Ends
 
 // free(c, cut), if there is a cut.
 fn free_to_cut(sheet: &[u8], n: usize, c: usize, cut: Lookahead) -> Extent
-    ensures { λ r. ⌜ endOf r ≡ freeTo (now (sheet .entry)) n c (cutSays cut) ⌝ }
+    ensures { λ r. ⌜ endOf r ≡ freeUnder (freeEnd (now (sheet .entry)) n) c (cutSays cut) ⌝ }
 {
     match cut {
         Lookahead::At(limit) => extents::free(sheet, n, c, limit),
@@ -148,23 +148,23 @@ pub fn find_ends(
     ensures answers { λ r. ⌜ r ≡ heldEnds (ends (sceneOf (now (table .entry)) (now (line .entry)) (now (sheet .entry))) (walker .limit) (walker .cursor) (partsBetween (now (table .entry)) at end)) ⌝ }
 {
     let n = line.len();
-    let c = walker.cursor;
-    let l = walker.limit;
+    let c = walker.get_cursor_index();
+    let l = walker.get_cursor_limit();
     let none = Ends {
         count: 0,
         places: [0; 3],
     };
-    let whole = add_end(line, l, none, extents::free(sheet, n, c, l));
+    let whole = add_end(line, walker, none, extents::free(sheet, n, c, l));
     let cut = find_cut(table, line, walker, at, end);
-    let both = add_end(line, l, whole, free_to_cut(sheet, n, c, cut));
-    add_end(line, l, both, extents::greedy(sheet, n, c, l))
+    let both = add_end(line, walker, whole, free_to_cut(sheet, n, c, cut));
+    add_end(line, walker, both, extents::greedy(sheet, n, c, l))
 }
 
 // The limits under which a nested step tries its ruleset: l, and then the cut if there is one.
 pub fn find_limits(table: &[u16], line: &[u8], walker: Walker, at: usize, end: usize) -> Limits
     ensures answers { λ r. ⌜ r ≡ heldLimits (limits (sceneOf (now (table .entry)) (now (line .entry)) []) (walker .limit) (walker .cursor) (partsBetween (now (table .entry)) at end)) ⌝ }
 {
-    let whole = walker.limit;
+    let whole = walker.get_cursor_limit();
     match find_cut(table, line, walker, at, end) {
         Lookahead::At(cut) => Limits {
             count: WITH_CUT,

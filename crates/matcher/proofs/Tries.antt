@@ -162,6 +162,7 @@ module _ {t line sheet starts store₀ rules : List ℕ} {count visits : ℕ} (a
               last = omega arith;
               cursor = omega (arith, start);
               limit = omega (arith, end-of);
+              top = λ e. end-of;
             }
 
         parts-are : partsBetween t (parts .at) (parts .end) ≡ s .parts (pairOf t rule .0) (pairOf t rule .1)

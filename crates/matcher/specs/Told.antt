@@ -8,7 +8,7 @@ use Rattle.defs.specs.Ruledef.{startsOf}
 use Rattle.defs.specs.RuledefMap.{linePrefix, topRules, foundRules}
 use Rattle.readings.specs.Scene.{Scene, sceneOf}
 use Rattle.readings.specs.Answer.{answerWords}
-use Rattle.readings.specs.Plan.{Outcome, done, stop}
+use Rattle.readings.specs.Plan.{Outcome, done, stop, room}
 use Rattle.readings.specs.Walk.{Match, topPairs}
 use Rattle.readings.specs.Lookup.{foundPairs}
 use Rattle.readings.specs.Call.{Told, Accepted, callWith}
@@ -63,7 +63,7 @@ pub data CheckedAs (t line sheet : List ℕ) (budget : ℕ) : Checked → Type 0
 pub record TryAsked (t line sheet starts store rules : List ℕ) (count visits : ℕ) : Type 0 where
   pub accepted : Accepted t line sheet visits
   pub begins : starts ≡ startsOf t
-  pub sized : length store ≡ 4096
+  pub sized : length store ≡ room
   pub fits : count ≤ length rules
   pub below : (i : ℕ) → i < count → getD rules i 0 < recordsIn t
 
@@ -72,7 +72,7 @@ pub record Listed (o : Outcome (List Match)) (store : List ℕ) (left : ℕ) (po
   pub matches : List Match
   pub done-with : o ≡ done left (pool .used) matches
   pub made : Made 0 [] (logOf store (pool .used)) matches
-  pub room : pool .used ≤ 4096
+  pub room : pool .used ≤ room
 
 pub data Tried (o : Outcome (List Match)) (store : List ℕ) : Walked → Type 0 where
   listed : {left : ℕ} {pool : Pool} → Listed o store left pool → Tried o store (Done left pool)

@@ -223,7 +223,7 @@ fn call(
     let starts = ruledef::ruleset_starts(table);
     let mut rules = [0u16; 512];
     let count = rules_to_try(table, line, order, &mut rules);
-    let mut store = [0usize; 4096];
+    let mut store = [0usize; Pool::ROOM];
     let visits = budget as usize;
     let walked = try_rules(
         table,

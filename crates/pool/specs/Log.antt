@@ -5,6 +5,7 @@ use Prim.Native.Nat.{ℕ, zero, suc, _+_, _*_, _/_, _%_, _<_}
 use lib.Dec.{eqb}
 use lib.ListN.{take, set}
 use Rattle.plain.specs.Choice.{select}
+use Rattle.readings.specs.Plan.{room}
 use Rattle.pool.specs.declared.ArgumentKind.{ArgumentKind}
 use Rattle.pool.specs.declared.ArgumentKind.the-variants.{Expr, Nested}
 use Rattle.pool.specs.declared.Argument.{Argument}
@@ -68,19 +69,19 @@ abbrev pub wordOf : Record → ℕ
 wordOf (Kept a p) = 2 * (p + 8192 * (a .start + 128 * (a .end + 128 * codeOf (a .kind))))
 wordOf (Completed d r k a e) = 1 + 2 * (d + 32 * (r + 32 * (k + 512 * (a + 8192 * e))))
 
--- the next word of the store, unless 4,096 are taken
+-- the next word of the store, unless there is no room
 unfoldable pub taken : ℕ → List ℕ → Record → List ℕ × Room
-taken used store x = select (eqb used 4096) (store, Full) (set store used (wordOf x), Taken (record { used = used + 1 }))
+taken used store x = select (eqb used room) (store, Full) (set store used (wordOf x), Taken (record { used = used + 1 }))
 
--- a record is taken, the next of the log, or 4,096 are
+-- a record is taken, the next of the log, or there is no room
 pub record Added (used : ℕ) (store store′ : List ℕ) (x : Record) (p : Pool) : Type 0 where
-  pub room : used < 4096
+  pub room : used < room
   pub counted : p .used ≡ used + 1
   pub grown : logOf store′ (used + 1) ≡ logOf store used ++ (x ∷ [])
 
 abbrev pub TakenAs : Room → ℕ → List ℕ → List ℕ → Record → Type 0
 TakenAs (Taken p) used store store′ x = Added used store store′ x p
-TakenAs Full used store store′ x = used ≡ 4096
+TakenAs Full used store store′ x = used ≡ room
 
 -- what taking a record leaves: store and answer, and what that is to the log
 pub record TakenBy (used : ℕ) (store store′ : List ℕ) (x : Record) (r : Room) : Type 0 where

@@ -7,6 +7,7 @@ use lib.Dec.{eqb}
 use lib.ListN.{length, getD}
 use Rattle.plain.specs.Choice.{select}
 use Rattle.readings.specs.Tree.{Tree, node, Args, end, expr, nest}
+use Rattle.readings.specs.Plan.{room}
 use Rattle.readings.specs.Walk.{Match}
 use Rattle.pool.specs.Log.{decode, logOf, nothing}
 use Rattle.pool.specs.declared.ArgumentKind.{ArgumentKind}
@@ -95,8 +96,8 @@ pub record Earlier (log : List Record) : Type 0 where
 -- ---- what reading the store asks, and what it finds
 
 pub record Stored (store : List ℕ) (used : ℕ) : Type 0 where
-  pub sized : length store ≡ 4096
-  pub room : used ≤ 4096
+  pub sized : length store ≡ room
+  pub room : used ≤ room
   pub earlier : Earlier (logOf store used)
 
 -- the entries of a store

@@ -4,6 +4,7 @@
 ghost use mathlib.Core.Path.{_≡_};
 ghost use Prim.Native.Nat.{_+_, _<_, _≤_};
 ghost use lib.ListN.{length, getD};
+ghost use Rattle.readings.specs.Plan.{room};
 ghost use Rattle.pool.specs.Log.{codeOf, kindOf, decode, ArgumentFits, MatchFits, TakenBy, Digits, depthIn};
 ghost use Rattle.pool.specs.Meaning.{Stored, HeadAt, LastAt};
 
@@ -88,7 +89,7 @@ impl Pool {
 
     // With one record more.
     fn more(self) -> Pool
-        requires { ⌜ self .used ≤ 4096 ⌝ }
+        requires { ⌜ self .used ≤ room ⌝ }
         ensures { λ r. ⌜ r ≡ record { used = self .used + 1 } ⌝ }
     {
         Pool {
@@ -98,8 +99,8 @@ impl Pool {
 
     // A record for an argument that is kept.
     pub fn keep(self, store: &mut [usize], argument: Argument, prev: usize) -> Room
-        requires { ⌜ length (now store) ≡ 4096 ⌝ }
-        requires { ⌜ self .used ≤ 4096 ⌝ }
+        requires { ⌜ length (now store) ≡ room ⌝ }
+        requires { ⌜ self .used ≤ room ⌝ }
         requires { ⌜ ArgumentFits argument prev ⌝ }
         ensures answers { λ r. ⌜ TakenBy (self .used) (now (store .entry)) (now (store .exit)) (Record.Kept argument prev) r ⌝ }
     {
@@ -124,8 +125,8 @@ impl Pool {
         args: usize,
         end: usize,
     ) -> Room
-        requires { ⌜ length (now store) ≡ 4096 ⌝ }
-        requires { ⌜ self .used ≤ 4096 ⌝ }
+        requires { ⌜ length (now store) ≡ room ⌝ }
+        requires { ⌜ self .used ≤ room ⌝ }
         requires { ⌜ MatchFits depth set rule args end ⌝ }
         ensures answers { λ r. ⌜ TakenBy (self .used) (now (store .entry)) (now (store .exit)) (Record.Completed depth set rule args end) r ⌝ }
     {

@@ -13,13 +13,13 @@ use borrow.Author.Tests.{ltb-true, lt-ltb, leb-true, le-leb}
 use Rattle.plain.specs.Choice.{select}
 use Rattle.plain.proofs.Tests.{tested, not-both, and-left, and-right, and-both, or-cases, or-left, or-right}
 use Rattle.syntax.specs.Token.{isWhitespace, sameLetter}
-use Rattle.syntax.specs.Walker.{byteAt, held, over, useful, gap}
+use Rattle.syntax.specs.Walker.{byteAt, held, over, past, expectChar, gap}
 use Rattle.syntax.proofs.Useful.{held-within, useful-is, useful-one}
 use Rattle.defs.specs.declared.ruledef.Part.{Part}
 use Rattle.defs.specs.declared.ruledef.Part.the-variants.{Exact, Whitespace, Expression, Nested}
 use Rattle.readings.specs.Scene.{Scene, walkerAt, Lawful}
 use Rattle.readings.specs.Reading.{Useful, Exactly-at, Gap, Ahead, next, past-space, Cut-for, Under, whole, up-to, Span}
-use Rattle.readings.specs.Walk.{usefulAt, past, isGap, lookahead, cutBy, cutFor, listOf, limits, start}
+use Rattle.readings.specs.Walk.{usefulAt, wentTo, exactly, isGap, lookahead, cutBy, cutFor, listOf, limits, start}
 
 -- ---- lookahead
 
@@ -45,34 +45,40 @@ module _ (s : Scene) (l c : ℕ) where
 
   -- ---- exact part
 
-  pub past-declared : (x d : ℕ) → past s l c x ≡ some d → Exactly-at s l c x d
-  unfolding past
-  past-declared x d e = go (tested (ltb u m && sameLetter (byteAt (s .line) u) x))
+  abbrev there : ℕ
+  there = usefulAt s l c
+
+  abbrev most : ℕ
+  most = walkerAt (s .line) l c .limit
+
+  -- the test of the byte, and where it leads
+  abbrev stands : ℕ → Bool
+  stands x = ltb there most && sameLetter (byteAt (s .line) there) x
+
+  abbrev leads : Bool → Option ℕ
+  leads b = wentTo (select b (true, past there (walkerAt (s .line) l c)) (false, walkerAt (s .line) l c))
+
+  pub exactly-declared : (x d : ℕ) → exactly s l c x ≡ some d → Exactly-at s l c x d
+  unfolding exactly expectChar
+  exactly-declared x d e = go (tested (stands x))
     where
-      u : ℕ
-      u = usefulAt s l c
-
-      m : ℕ
-      m = walkerAt (s .line) l c .limit
-
-      go : ((ltb u m && sameLetter (byteAt (s .line) u) x) ≡ true) ⊎ ((ltb u m && sameLetter (byteAt (s .line) u) x) ≡ false) → Exactly-at s l c x d
+      go : (stands x ≡ true) ⊎ (stands x ≡ false) → Exactly-at s l c x d
       go (inl t) = record {
-        place = u;
+        place = there;
         useful = useful-found;
-        below = ltb-true u m (and-left (ltb u m) (sameLetter (byteAt (s .line) u) x) t);
-        equal = and-right (ltb u m) (sameLetter (byteAt (s .line) u) x) t;
-        past = sym (Option·some-inj .0 (sym (ap (λ (b : Bool). select b (some (u + 1)) none) t) ∙ e));
+        below = ltb-true there most (and-left (ltb there most) (sameLetter (byteAt (s .line) there) x) t);
+        equal = and-right (ltb there most) (sameLetter (byteAt (s .line) there) x) t;
+        past = sym (Option·some-inj .0 (sym (ap leads t) ∙ e));
       }
-      go (inr f) = absurd (Option·none-ne-some d (sym (ap (λ (b : Bool). select b (some (u + 1)) none) f) ∙ e))
+      go (inr f) = absurd (Option·none-ne-some d (sym (ap leads f) ∙ e))
 
-  pub past-found : (x d : ℕ) → Exactly-at s l c x d → past s l c x ≡ some d
-  unfolding past
-  past-found x d e =
+  pub exactly-found : (x d : ℕ) → Exactly-at s l c x d → exactly s l c x ≡ some d
+  unfolding exactly expectChar
+  exactly-found x d e =
       let at = useful-only (e .useful) in
-      let below : usefulAt s l c < walkerAt (s .line) l c .limit = subst (λ (p : ℕ). p < walkerAt (s .line) l c .limit) at (e .below) in
-      let equal : sameLetter (byteAt (s .line) (usefulAt s l c)) x ≡ true = subst (λ (p : ℕ). sameLetter (byteAt (s .line) p) x ≡ true) at (e .equal) in
-      ap (λ (b : Bool). select b (some (usefulAt s l c + 1)) none) (and-both _ _ (lt-ltb _ _ below) equal)
-      ∙ ap {B = Option ℕ} some (ap (λ (p : ℕ). p + 1) (sym at) ∙ sym (e .past))
+      let below : there < most = subst (λ (p : ℕ). p < most) at (e .below) in
+      let equal : sameLetter (byteAt (s .line) there) x ≡ true = subst (λ (p : ℕ). sameLetter (byteAt (s .line) p) x ≡ true) at (e .equal) in
+      ap leads (and-both _ _ (lt-ltb _ _ below) equal) ∙ ap {B = Option ℕ} some (ap (λ (p : ℕ). p + 1) (sym at) ∙ sym (e .past))
 
   -- ---- whitespace part
 

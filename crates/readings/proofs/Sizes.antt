@@ -14,7 +14,7 @@ use Rattle.defs.specs.declared.ruledef.Part.the-variants.{Exact, Whitespace, Ex
 use Rattle.readings.specs.Tree.{end}
 use Rattle.readings.specs.Scene.{Scene}
 use Rattle.readings.specs.Plan.{Plan, give, keep, records, Gives, _then_, each, when, after, mapped}
-use Rattle.readings.specs.Walk.{Found, Match, Below, past, isGap, ends, limits, firsts, sameMatch, addExpr, addNest, named, walk, rulesetWalk, under, trial, tries, depths}
+use Rattle.readings.specs.Walk.{Found, Match, Below, exactly, isGap, ends, limits, firsts, sameMatch, addExpr, addNest, named, walk, rulesetWalk, under, trial, tries, depths}
 use Rattle.readings.specs.Measure.{treeRecords, argRecords, treeDepth, argDepth}
 use Rattle.readings.proofs.Firsts.{firsts-mem}
 use Rattle.readings.proofs.Plans.{got, then-gives, each-parts, each-source, mapped-parts, mapped-source, when-source, after-source}
@@ -89,7 +89,7 @@ module _ (s : Scene) (below : Below) (fin : ℕ → Bool) where
   walk-paid : (ps : List Part) (l c : ℕ) → Paid (walk s below fin ps l c)
   unfolding walk
   walk-paid [] l c rs h = when-paid (fin c) (keep (give ((end, c) ∷ []))) (λ rs h. rw (← got h) (omega arith)) rs h
-  walk-paid (Exact x ∷ ps) l c rs h = after-paid (past s l c x) (λ d. walk s below fin ps l d) (λ d. walk-paid ps l d) rs h
+  walk-paid (Exact x ∷ ps) l c rs h = after-paid (exactly s l c x) (λ d. walk s below fin ps l d) (λ d. walk-paid ps l d) rs h
   walk-paid (Whitespace ∷ ps) l c rs h = when-paid (isGap s l c) (walk s below fin ps l c) (walk-paid ps l c) rs h
   walk-paid (Expression ∷ ps) l c rs h = each-paid _ (ends s l c ps) (λ e rs h. omega (arith, mapped-paid (addExpr s l c e) (walk s below fin ps l e) (walk-paid ps l e) rs h)) rs h
   walk-paid (Nested r ∷ ps) l c rs h =
@@ -117,7 +117,7 @@ module _ (s : Scene) (below : Below) (ok : Stored below) (fin : ℕ → Bool) wh
       let q : x ≡ (end, c) = List·Memᴰ·eq-of-singleton (rw (← got g) at m) in
       rw (q, t, ← got g) (omega arith)
   walk-stored (Exact y ∷ ps) l c rs x h m =
-      let (d, q, g) = after-source _ (past s l c y) h m in
+      let (d, q, g) = after-source _ (exactly s l c y) h m in
       rw q (walk-stored ps l d rs x g m)
   walk-stored (Whitespace ∷ ps) l c rs x h m =
       let (t, g) = when-source (isGap s l c) _ h m in
@@ -173,7 +173,7 @@ module _ (s : Scene) (d : ℕ) (below : Below) (ok : Shallow d below) (fin : ℕ
       let (t, g) = when-source (fin c) _ h m in
       let q : x ≡ (end, c) = List·Memᴰ·eq-of-singleton (rw (← got g) at m) in
       rw q (omega arith)
-  walk-shallow (Exact y ∷ ps) l c h m = let (d, q, g) = after-source _ (past s l c y) h m in walk-shallow ps l d g m
+  walk-shallow (Exact y ∷ ps) l c h m = let (d, q, g) = after-source _ (exactly s l c y) h m in walk-shallow ps l d g m
   walk-shallow (Whitespace ∷ ps) l c h m = walk-shallow ps l c (when-source (isGap s l c) _ h m .1) m
   walk-shallow (Expression ∷ ps) l c h m =
       let (e, i, r, g, n) = each-source _ (ends s l c ps) h m in

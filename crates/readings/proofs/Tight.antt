@@ -12,7 +12,7 @@ use Rattle.readings.specs.Scene.{Scene, Lawful}
 use Rattle.readings.specs.Reading.{Useful, Exactly-at, Cut-for, Span, From, Readings}
 use Rattle.readings.specs.Demand.{BestReadings}
 use Rattle.readings.specs.Call.{Told, callWith}
-use Rattle.readings.proofs.Leaves.{useful-only, past-found, span-found, cut-found}
+use Rattle.readings.proofs.Leaves.{useful-only, exactly-found, span-found, cut-found}
 use Rattle.readings.proofs.Runs.{total, total-fewer}
 use Rattle.readings.proofs.Walks.{same-end}
 use Rattle.readings.proofs.Numbers.{Case, numbered}
@@ -24,7 +24,7 @@ module _ (s : Scene) (l c : ℕ) where
   one-place u v = useful-only s l c u ∙ sym (useful-only s l c v)
 
   pub one-past : (x d e : ℕ) → Exactly-at s l c x d → Exactly-at s l c x e → d ≡ e
-  one-past x d e p q = Option·some-inj .0 (sym (past-found s l c x d p) ∙ past-found s l c x e q)
+  one-past x d e p q = Option·some-inj .0 (sym (exactly-found s l c x d p) ∙ exactly-found s l c x e q)
 
   pub one-start : (f g e : ℕ) → Span s l c f e → Span s l c g e → f ≡ g
   one-start f g e p q = span-found s l c f e p ∙ sym (span-found s l c g e q)

@@ -17,8 +17,8 @@ use Rattle.readings.specs.Tree.{Tree, node, Args, end, expr, nest}
 use Rattle.readings.specs.Scene.{Scene, Lawful}
 use Rattle.readings.specs.Reading.{Exactly-at, From, finish, exact, whitespace, expression, nested}
 use Rattle.readings.specs.Plan.{give, Gives, each}
-use Rattle.readings.specs.Walk.{Found, Match, Below, past, isGap, ends, limits, firsts, sameMatch, addExpr, addNest, named, walk, rulesetWalk, under, trial, topPairs, depths}
-use Rattle.readings.proofs.Leaves.{past-declared, past-found, gap-declared, gap-found, span-declared, span-found, limit-declared, limit-found, same-useful}
+use Rattle.readings.specs.Walk.{Found, Match, Below, exactly, isGap, ends, limits, firsts, sameMatch, addExpr, addNest, named, walk, rulesetWalk, under, trial, topPairs, depths}
+use Rattle.readings.proofs.Leaves.{exactly-declared, exactly-found, gap-declared, gap-found, span-declared, span-found, limit-declared, limit-found, same-useful}
 use Rattle.readings.proofs.Candidates.{end-declared, end-listed, ends-apart}
 use Rattle.readings.proofs.Trees.{same-tree, differ}
 use Rattle.readings.proofs.Firsts.{firsts-mem, firsts-has, firsts-once}
@@ -66,9 +66,9 @@ module _ (s : Scene) (law : Lawful s) (below : Below) (ok : Lists s below) (fin 
       let q : x ≡ (end, c) = List·Memᴰ·eq-of-singleton (rw (← Option·some-inj .0 g) at m) in
       rw q (finish, t)
   walk-sound (Exact y ∷ ps) l c h m =
-      let (d, q, g) = after-source _ (past s l c y) h m in
+      let (d, q, g) = after-source _ (exactly s l c y) h m in
       let (w, f) = walk-sound ps l d g m in
-      (exact (past-declared s l c y d q) w, f)
+      (exact (exactly-declared s l c y d q) w, f)
   walk-sound (Whitespace ∷ ps) l c h m =
       let (t, g) = when-source (isGap s l c) _ h m in
       let (w, f) = walk-sound ps l c g m in
@@ -111,7 +111,7 @@ module _ (s : Scene) (law : Lawful s) (below : Below) (ok : Lists s below) (fin 
       → Gives (walk s below fin ps l c) rs → List·Memᴰ (a, e) rs
   unfolding walk
   walk-complete {c = c} finish f h = rw (← Option·some-inj .0 (when-true (fin c) _ f h)) (List·Memᴰ·head refl)
-  walk-complete {l} {c} (exact {d = d} {x = x} p w) f h = walk-complete w f (after-some _ _ (past-found s l c x d p) h)
+  walk-complete {l} {c} (exact {d = d} {x = x} p w) f h = walk-complete w f (after-some _ _ (exactly-found s l c x d p) h)
   walk-complete {l} {c} (whitespace p w) f h = walk-complete w f (when-true _ _ (gap-found s l c p) h)
   walk-complete {l} {c} {e} (expression {d = d} {f = b} {ps = ps} {a = a} i q w) f h =
       rw (span-found s l c b d q)
@@ -145,7 +145,7 @@ module _ (s : Scene) (law : Lawful s) (below : Below) (fin : ℕ → Bool) where
   walk-once : (ps : List Part) (l c : ℕ) {rs : List Found} → Gives (walk s below fin ps l c) rs → Apart args rs
   unfolding walk
   walk-once [] l c h = when-once args (fin c) _ h (λ g. rw (← Option·some-inj .0 g) ((λ y m. absurd (List·Memᴰ·not-nil m)), tt))
-  walk-once (Exact y ∷ ps) l c h = after-once _ args (past s l c y) h (λ d g. walk-once ps l d g)
+  walk-once (Exact y ∷ ps) l c h = after-once _ args (exactly s l c y) h (λ d g. walk-once ps l d g)
   walk-once (Whitespace ∷ ps) l c h = when-once args (isGap s l c) _ h (λ g. walk-once ps l c g)
   walk-once (Expression ∷ ps) l c h =
       each-once _ (λ (e : ℕ). e) args first-end (ends s l c ps)

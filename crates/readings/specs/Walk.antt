@@ -1,15 +1,14 @@
 -- The walk, from the Rust's functions and in their order, depth first: rule walk, expression step, nested step. It is
 -- structural: the rule walk recurses on the remaining parts, the nested step takes the walk below it as a parameter, and
 -- `under` recurses on the depths that are left.
-use mathlib.Core.Bool.{Bool, true, false, _&&_, _||_}
+use mathlib.Core.Bool.{Bool, true, false, _||_}
 use mathlib.Core.List.{List, [], _∷_, _++_, map, flatMap}
 use mathlib.Core.Option.{Option, none, some}
-use Prim.Native.Nat.{ℕ, zero, suc, _+_, min}
-use lib.Dec.{eqb, ltb}
+use Prim.Native.Nat.{ℕ, zero, suc, min}
+use lib.Dec.{eqb}
 use lib.ListN.{length}
-use Rattle.plain.specs.Choice.{select}
-use Rattle.syntax.specs.Token.{sameLetter}
-use Rattle.syntax.specs.Walker.{byteAt, useful, gap}
+use Rattle.syntax.specs.Walker.{useful, expectChar, gap}
+use Rattle.syntax.specs.declared.walker.Walker.{Walker}
 use Rattle.defs.specs.declared.ruledef.Part.{Part}
 use Rattle.defs.specs.declared.ruledef.Part.the-variants.{Exact, Whitespace, Expression, Nested}
 use Rattle.readings.specs.Tree.{Tree, node, Args, end, expr, nest, sameTree}
@@ -26,12 +25,14 @@ Match = Tree × ℕ
 abbrev pub usefulAt : Scene → ℕ → ℕ → ℕ
 usefulAt s l c = useful (s .line) (walkerAt (s .line) l c)
 
+-- the cursor of a walker that went past a byte
+abbrev pub wentTo : Bool × Walker → Option ℕ
+wentTo (true, w) = some (w .cursor)
+wentTo (false, w) = none
+
 -- the cursor past an exact part's byte
-unfoldable pub past : Scene → ℕ → ℕ → ℕ → Option ℕ
-past s l c x =
-    select (ltb (usefulAt s l c) (walkerAt (s .line) l c .limit) && sameLetter (byteAt (s .line) (usefulAt s l c)) x)
-    (some (usefulAt s l c + 1))
-    none
+unfoldable pub exactly : Scene → ℕ → ℕ → ℕ → Option ℕ
+exactly s l c x = wentTo (expectChar (s .line) x (walkerAt (s .line) l c))
 
 abbrev pub isGap : Scene → ℕ → ℕ → Bool
 isGap s l c = gap (s .line) (walkerAt (s .line) l c)
@@ -56,13 +57,14 @@ abbrev pub listOf : Option ℕ → List ℕ
 listOf none = []
 listOf (some x) = x ∷ []
 
-abbrev pub freeUnder : Scene → ℕ → Option ℕ → Option ℕ
-freeUnder s c none = none
-freeUnder s c (some m) = s .free c m
+-- free(c, cut), if there is a cut
+abbrev pub freeUnder : (ℕ → ℕ → Option ℕ) → ℕ → Option ℕ → Option ℕ
+freeUnder free c none = none
+freeUnder free c (some m) = free c m
 
 -- parse with and without lookahead, then the greedy decimal
 unfoldable pub candidates : Scene → ℕ → ℕ → List Part → List ℕ
-candidates s l c ps = listOf (s .free c l) ++ (listOf (freeUnder s c (cutFor s l c ps)) ++ listOf (s .greedy c l))
+candidates s l c ps = listOf (s .free c l) ++ (listOf (freeUnder (s .free) c (cutFor s l c ps)) ++ listOf (s .greedy c l))
 
 abbrev pub unless : {A : Type 0} → Bool → A → List A → List A
 unless true x xs = xs
@@ -81,11 +83,12 @@ fresh same seen (x ∷ xs) = unless (anySame same seen x) x (fresh same (seen ++
 unfoldable pub firsts : {A : Type 0} → (A → A → Bool) → List A → List A
 firsts same xs = fresh same [] xs
 
-abbrev pub sameEnd : Scene → ℕ → ℕ → ℕ → Bool
-sameEnd s l d e = eqb (usefulAt s l d) (usefulAt s l e)
+-- two ends have the same useful place under l
+abbrev pub sameEnd : List ℕ → ℕ → ℕ → ℕ → Bool
+sameEnd line l d e = eqb (useful line (walkerAt line l d)) (useful line (walkerAt line l e))
 
 unfoldable pub ends : Scene → ℕ → ℕ → List Part → List ℕ
-ends s l c ps = firsts (sameEnd s l) (candidates s l c ps)
+ends s l c ps = firsts (sameEnd (s .line) l) (candidates s l c ps)
 
 -- the limits under which a nested step tries its ruleset
 unfoldable pub limits : Scene → ℕ → ℕ → List Part → List ℕ
@@ -115,7 +118,7 @@ Below = ℕ → ℕ → ℕ → Plan (List Match)
 -- pattern's end counts.
 unfoldable pub walk : Scene → Below → (ℕ → Bool) → List Part → ℕ → ℕ → Plan (List Found)
 walk s below fin [] l c = visit (when (fin c) (keep (give ((end, c) ∷ []))))
-walk s below fin (Exact x ∷ ps) l c = visit (after (past s l c x) (λ d. walk s below fin ps l d))
+walk s below fin (Exact x ∷ ps) l c = visit (after (exactly s l c x) (λ d. walk s below fin ps l d))
 walk s below fin (Whitespace ∷ ps) l c = visit (when (isGap s l c) (walk s below fin ps l c))
 walk s below fin (Expression ∷ ps) l c =
     visit (each (ends s l c ps) (λ e. keep (mapped (addExpr s l c e) (walk s below fin ps l e))))

@@ -1,10 +1,15 @@
 -- The end of a pattern: a match is completed, unless a top rule ends short of the line's end or the pool is full.
 use mathlib.Core.Path.{_≡_, refl, sym, ap, _∙_}
-use mathlib.Core.Bool.{true, false}
+use mathlib.Core.Bool.{true, false, not}
 use mathlib.Core.List.{List, [], _∷_}
-use Prim.Native.Nat.{ℕ, zero, suc, _≤_}
+use Prim.Native.Nat.{ℕ, zero, suc, _≤_, _<_, min}
+use native.Mathlib.Decide.{decLt}
 use native.Mathlib.Omega.{arith}
-use borrow.Author.Tests.{eq-eqb, ne-eqb}
+use lib.ListN.{length}
+use borrow.Author.Tests.{eq-eqb, ne-eqb, le-leb, lt-leb}
+use Rattle.plain.proofs.Tests.{not-both}
+use Rattle.syntax.specs.Walker.{held, over}
+use Rattle.syntax.specs.declared.walker.Walker.{Walker}
 use Rattle.readings.specs.Tree.{end}
 use Rattle.readings.specs.Plan.{give, keep, Outcome, done, run}
 use Rattle.readings.specs.Walk.{Found}
@@ -20,6 +25,20 @@ use Rattle.walk.specs.declared.Refusal.the-variants.{Full}
 use Rattle.walk.specs.Met.{finishes, finishPlan, ran, Left, went, halted}
 use Rattle.walk.proofs.Outcomes.{keep-full, keep-more}
 use Rattle.walk.proofs.Logs.{made-none, made-match}
+
+-- a walker that sees the whole line is over exactly at the line's end
+module _ (line : List ℕ) (w : Walker) (h : w .cursor ≤ w .limit) (top : w .limit ≡ length line) where
+  pub not-over : not (over (held line w)) ≡ true → w .cursor ≡ length line → ⊥
+  unfolding over held
+  not-over e q = not-both e (ap not (le-leb (min (w .limit) (length line)) (min (w .cursor) (min (w .limit) (length line))) (omega arith)))
+
+  pub is-over : not (over (held line w)) ≡ false → w .cursor ≡ length line
+  unfolding over held
+  is-over e = go (decLt (min (w .cursor) (min (w .limit) (length line))) (min (w .limit) (length line)))
+    where
+      go : Dec (min (w .cursor) (min (w .limit) (length line)) < min (w .limit) (length line)) → w .cursor ≡ length line
+      go (yes l) = absurd (not-both (ap not (lt-leb (min (w .limit) (length line)) (min (w .cursor) (min (w .limit) (length line))) l)) e)
+      go (no l) = omega (arith, l)
 
 module _ (n c : ℕ) (depth : ℕ) where
   ends-short : depth ≡ 0 → (c ≡ n → ⊥) → finishes n depth c ≡ false

@@ -6,7 +6,8 @@ use Prim.Native.Nat.{ℕ, _+_, _≤_, _<_, min}
 use native.Mathlib.Omega.{arith}
 use lib.ListN.{length, getD, take}
 use Rattle.plain.proofs.Lists.{listed-length}
-use Rattle.syntax.specs.Walker.{held, useful}
+use Rattle.syntax.specs.Walker.{held, movedTo, useful}
+use Rattle.syntax.proofs.Useful.{index-set}
 use Rattle.syntax.specs.declared.walker.Walker.{Walker}
 use Rattle.defs.specs.Table.{partsBetween}
 use Rattle.readings.specs.Scene.{Scene, sceneOf}
@@ -51,33 +52,42 @@ abbrev pub ExprDid : List ℕ → List ℕ → List ℕ → Place → ℕ → �
 ExprDid t line sheet place l g es v₀ u₀ store₀ i v u store =
     Did (exprFrom t line sheet place l g) (wholeAt place (logOf store₀ u₀)) (place .depth) (take i (heldIn es)) v₀ u₀ store₀ v u store
 
--- what the next walk asks
+-- where a move to an end below the limit leads
+pub moved-there : {t line sheet starts store₀ : List ℕ} {place : Place} {w : Walker} {pool : Pool} → Ready t line sheet starts store₀ place w pool
+    → (e : ℕ) → e ≤ w .limit → movedTo line e (held line w) ≡ record { cursor = e; limit = w .limit }
+moved-there {line = line} {w = w} r e h = index-set line w e (r .cursor, r .limit) h
+
+-- what the next walk asks, of a walker that was moved to an end below the limit
 pub ready-after : {t line sheet starts store₀ : List ℕ} {place : Place} {w : Walker} {pool : Pool} → Ready t line sheet starts store₀ place w pool
     → (store : List ℕ) (more : Pool) (e : ℕ) {next : Place} → next ≡ afterArg place (more .used) → e ≤ w .limit → Stored store (more .used)
-    → Ready t line sheet starts store next (record { cursor = e; limit = w .limit }) more
-ready-after {t} {line} {sheet} {starts} {w = w} r store more e n h s = subst (λ (q : Place). Ready t line sheet starts store q (record { cursor = e; limit = w .limit }) more) (sym n) (record {
-  table = r .table;
-  extents = r .extents;
-  short = r .short;
-  begins = r .begins;
-  stored = s;
-  sets = r .sets;
-  rules = r .rules;
-  parts = r .parts;
-  ordered = r .ordered;
-  whole = r .whole;
-  depth = r .depth;
-  last = omega arith;
-  cursor = h;
-  limit = r .limit;
-})
+    → {moved : Walker} → moved ≡ movedTo line e (held line w) → Ready t line sheet starts store next moved more
+ready-after {t} {line} {sheet} {starts} {w = w} r store more e {next} n h s is =
+    subst (λ (v : Walker). Ready t line sheet starts store next v more) (sym (is ∙ moved-there r e h))
+    (subst (λ (q : Place). Ready t line sheet starts store q (record { cursor = e; limit = w .limit }) more) (sym n) (record {
+      table = r .table;
+      extents = r .extents;
+      short = r .short;
+      begins = r .begins;
+      stored = s;
+      sets = r .sets;
+      rules = r .rules;
+      parts = r .parts;
+      ordered = r .ordered;
+      whole = r .whole;
+      depth = r .depth;
+      last = omega arith;
+      cursor = h;
+      limit = r .limit;
+      top = r .top;
+    }))
 
 -- what a walk from the next place left
 pub left-after-arg : (t line sheet : List ℕ) (place : Place) (more : Pool) (l e v : ℕ) {log : List Record} {store : List ℕ} {r : Walked} {next : Place} → next ≡ afterArg place (more .used)
-    → Left (ran (rulePlan t line sheet (next .depth) (next .at) (next .end) l e) v more) next log store r
+    → {moved : Walker} → moved ≡ record { cursor = e; limit = l } → Left (ran (rulePlan t line sheet (next .depth) (next .at) (next .end) (moved .limit) (moved .cursor)) v more) next log store r
     → Left (ran (rulePlan t line sheet (place .depth) (place .at) (place .end) l e) v more) (afterArg place (more .used)) log store r
-left-after-arg t line sheet place more l e v {log} {store} {r} n m =
-    subst (λ (q : Place). Left (ran (rulePlan t line sheet (q .depth) (q .at) (q .end) l e) v more) q log store r) n m
+left-after-arg t line sheet place more l e v {log} {store} {r} {next} n is m =
+    subst (λ (q : Place). Left (ran (rulePlan t line sheet (q .depth) (q .at) (q .end) l e) v more) q log store r) n
+    (subst (λ (w : Walker). Left (ran (rulePlan t line sheet (next .depth) (next .at) (next .end) (w .limit) (w .cursor)) v more) next log store r) is m)
 
 module _ {t line sheet starts store₀ : List ℕ} {place : Place} {w : Walker} {pool : Pool} (ready : Ready t line sheet starts store₀ place w pool) (visits : ℕ)
     (g : ℕ) (g-is : g ≡ useful line (held line w)) (es : Ends) (es-is : es ≡ heldEnds (ends (sceneOf t line sheet) (w .limit) (w .cursor) (partsBetween t (place .at) (place .end)))) where
@@ -160,19 +170,22 @@ module _ {t line sheet starts store₀ : List ℕ} {place : Place} {w : Walker} 
         same-turn : exprFrom t line sheet place (w .limit) g e ≡ turn (entries store u) (exprArg st e) (rulePlan t line sheet (place .depth) (place .at) (place .end) (w .limit) e)
         same-turn = ap (λ (n : ℕ). turn [] (exprArg n e) (rulePlan t line sheet (place .depth) (place .at) (place .end) (w .limit) e)) (sym st-is)
 
-        pub expr-ready : {next : Place} → next ≡ afterArg place (more .used) → length store′ ≡ 4096 → Ready t line sheet starts store′ next (record { cursor = e; limit = w .limit }) more
+        pub expr-ready : {next : Place} → next ≡ afterArg place (more .used) → length store′ ≡ 4096 → {moved : Walker} → moved ≡ movedTo line e (held line w) → Ready t line sheet starts store′ next moved more
         expr-ready next z =
             ready-after ready store′ more e next (expr-within .1)
             (turn-stored place (exprArg st e) (rulePlan t line sheet (place .depth) (place .at) (place .end) (w .limit) e) v u store store′ more (did .stored)
             (omega (arith, ready .last, did-longer did (ready .stored))) tt added z)
 
-        module _ {next : Place} (next-is : next ≡ afterArg place (more .used)) {r : Walked} {store″ : List ℕ}
-            (m : Left (ran (rulePlan t line sheet (next .depth) (next .at) (next .end) (w .limit) e) v more) next (logOf store′ (more .used)) store″ r) where
+        module _ {next : Place} (next-is : next ≡ afterArg place (more .used)) {moved : Walker} (moved-is : moved ≡ movedTo line e (held line w)) {r : Walked} {store″ : List ℕ}
+            (m : Left (ran (rulePlan t line sheet (next .depth) (next .at) (next .end) (moved .limit) (moved .cursor)) v more) next (logOf store′ (more .used)) store″ r) where
+          from-there : Left (ran (rulePlan t line sheet (place .depth) (place .at) (place .end) (w .limit) e) v more) (afterArg place (more .used)) (logOf store′ (more .used)) store″ r
+          from-there = left-after-arg t line sheet place more (w .limit) e v next-is (moved-is ∙ moved-there ready e (expr-within .1)) m
+
           pub expr-again : {l : ℕ} {q : Pool} → r ≡ Done l q → length store″ ≡ 4096 → ExprDid t line sheet place (w .limit) g es visits (pool .used) store₀ (i + 1) l (q .used) store″
           expr-again x z =
               did-same (ap (λ (n : ℕ). take i (heldIn es) ++ (n ∷ [])) is-next ∙ sym (next-taken (heldIn es) 0 i (omega (arith, long))))
               (turned (exprFrom t line sheet place (w .limit) g) place did (ready .stored) (ready .last) (exprArg st e)
-              (rulePlan t line sheet (place .depth) (place .at) (place .end) (w .limit) e) e same-turn store′ more tt added (left-after-arg t line sheet place more (w .limit) e v next-is m) x z)
+              (rulePlan t line sheet (place .depth) (place .at) (place .end) (w .limit) e) e same-turn store′ more tt added from-there x z)
 
           pub expr-halt : {why : Refusal} {l : ℕ} → r ≡ Stopped why l
               → Left (ran (exprPlan t line sheet (place .depth) (place .at) (place .end) (w .limit) (w .cursor)) visits pool) place (logOf store₀ (pool .used)) store″ (Stopped why l)
@@ -180,4 +193,4 @@ module _ {t line sheet starts store₀ : List ℕ} {place : Place} {w : Walker} 
               halted
               (stops
               (turn-refused (exprFrom t line sheet place (w .limit) g) place did (ready .stored) (ready .last) (exprArg st e)
-              (rulePlan t line sheet (place .depth) (place .at) (place .end) (w .limit) e) e same-turn store′ more tt added (left-after-arg t line sheet place more (w .limit) e v next-is m) x))
+              (rulePlan t line sheet (place .depth) (place .at) (place .end) (w .limit) e) e same-turn store′ more tt added from-there x))

@@ -10,7 +10,7 @@ use lib.Dec.{eqb}
 use lib.ListN.{length, getD, take, drop, List·getD-append}
 use lib.Seq.{slice, slice-empty, take-suc, take-all, take-append-le, drop-append-le, drop-append-seam, length-take-le}
 use Rattle.plain.specs.Choice.{select}
-use Rattle.syntax.specs.Walker.{held, useful}
+use Rattle.syntax.specs.Walker.{held, movedTo, useful}
 use Rattle.syntax.specs.declared.walker.Walker.{Walker}
 use Rattle.defs.specs.Table.{partsBetween}
 use Rattle.readings.specs.Tree.{Tree, nest}
@@ -48,7 +48,7 @@ use Rattle.walk.proofs.Logs.{made-join, made-deeper}
 use Rattle.walk.proofs.Turns.{turn, turn-full, turn-stored}
 use Rattle.walk.proofs.Loops.{Did, did-none, did-same, did-stop, did-longer, index-end}
 use Rattle.walk.proofs.Turned.{turned, turn-refused, whole-stays}
-use Rattle.walk.proofs.Exprs.{ready-after, left-after-arg}
+use Rattle.walk.proofs.Exprs.{moved-there, ready-after, left-after-arg}
 use Rattle.walk.proofs.Rules.{itself, limitsIn, underLimit, LimitsDid, limits-listed, limit-long}
 
 -- ---- one entry more
@@ -259,24 +259,27 @@ module _ {t line sheet starts store₀ : List ℕ} {place : Place} {w : Walker} 
           inner-before : m < u
           inner-before = omega (arith, nest-used)
 
-          pub nest-ready : {next : Place} → next ≡ afterArg place (more .used) → e ≤ w .limit → length store′ ≡ 4096 → Ready t line sheet starts store′ next (record { cursor = e; limit = w .limit }) more
+          pub nest-ready : {next : Place} → next ≡ afterArg place (more .used) → e ≤ w .limit → length store′ ≡ 4096 → {moved : Walker} → moved ≡ movedTo line e (held line w) → Ready t line sheet starts store′ next moved more
           nest-ready next b z =
               ready-after ready store′ more e next b
               (turn-stored place (nestArg st e m) p v u store store′ more (n .did .stored) (omega (arith, few, nest-used)) inner-before added z)
 
-          module _ {next-place : Place} (next-is : next-place ≡ afterArg place (more .used)) {r : Walked} {store″ : List ℕ}
-              (got : Left (ran (rulePlan t line sheet (next-place .depth) (next-place .at) (next-place .end) (w .limit) e) v more) next-place (logOf store′ (more .used)) store″ r) where
+          module _ {next-place : Place} (next-is : next-place ≡ afterArg place (more .used)) (b : e ≤ w .limit) {moved : Walker} (moved-is : moved ≡ movedTo line e (held line w)) {r : Walked} {store″ : List ℕ}
+              (got : Left (ran (rulePlan t line sheet (next-place .depth) (next-place .at) (next-place .end) (moved .limit) (moved .cursor)) v more) next-place (logOf store′ (more .used)) store″ r) where
+            from-there : Left (ran p v more) (afterArg place (more .used)) (logOf store′ (more .used)) store″ r
+            from-there = left-after-arg t line sheet place more (w .limit) e v next-is (moved-is ∙ moved-there ready e b) got
+
             pub nest-again : {l : ℕ} {q : Pool} → r ≡ Done l q → length store″ ≡ 4096 → NestDid t line sheet place (w .limit) g (pool .used) v₁ u₁ store₁ (m + 1) l (q .used) store″
             nest-again x z = record {
               low = omega (arith, n .low);
               high = omega arith;
               start = n .start;
               did = did-same (sym (next ∙ ap (λ (l : List Match). innersOf store₁ u₁ d (pool .used) m ++ l) new-here))
-                  (turned f place (n .did) (n .start) few (nestArg st e m) p (treeAt es₁ m, e) (same-turn st-is) store′ more inner-before added (left-after-arg t line sheet place more (w .limit) e v next-is got) x z);
+                  (turned f place (n .did) (n .start) few (nestArg st e m) p (treeAt es₁ m, e) (same-turn st-is) store′ more inner-before added from-there x z);
             }
 
             pub nest-halt : {why : Refusal} {l : ℕ} → r ≡ Stopped why l → run (each (innersOf store₁ u₁ d (pool .used) u₁) f) v₁ u₁ ≡ stop (numberOf why) l
-            nest-halt x = stops (turn-refused f place (n .did) (n .start) few (nestArg st e m) p (treeAt es₁ m, e) (same-turn st-is) store′ more inner-before added (left-after-arg t line sheet place more (w .limit) e v next-is got) x)
+            nest-halt x = stops (turn-refused f place (n .did) (n .start) few (nestArg st e m) p (treeAt es₁ m, e) (same-turn st-is) store′ more inner-before added from-there x)
 
 -- ---- the whole step
 

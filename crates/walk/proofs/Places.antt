@@ -16,13 +16,14 @@ use Rattle.syntax.specs.Walker.{byteAt, held, useful, stepSays, expectChar, exp
 use Rattle.syntax.specs.declared.walker.Walker.{Walker}
 use Rattle.syntax.specs.declared.walker.Step.{Step}
 use Rattle.syntax.specs.declared.walker.Step.the-variants.{Past, Stayed}
+use Rattle.syntax.proofs.Useful.{held-same}
 use Rattle.defs.specs.Table.{wordAt, partOf, partsBetween}
 use Rattle.defs.specs.declared.ruledef.Part.{Part}
 use Rattle.defs.specs.declared.ruledef.Part.the-variants.{Exact, Whitespace, Expression, Nested}
 use Rattle.defs.proofs.Words.{parts-none, parts-next}
 use Rattle.readings.specs.Scene.{Scene, sceneOf, walkerAt}
 use Rattle.readings.specs.Plan.{Outcome, done, stop, run, when, after}
-use Rattle.readings.specs.Walk.{Found, walk, past, isGap}
+use Rattle.readings.specs.Walk.{Found, wentTo, exactly, walk, isGap}
 use Rattle.readings.proofs.Records.{nested-few}
 use Rattle.pool.specs.declared.Pool.{Pool}
 use Rattle.pool.specs.declared.Record.{Record}
@@ -47,49 +48,39 @@ module _ (t line sheet : List ℕ) (l c : ℕ) where
   w = walkerAt line l c
 
   module _ (x : ℕ) (step : Step) (says : stepSays step ≡ expectChar line x w) where
+    pub exact-past : (next : Walker) → step ≡ Past next → exactly s l c x ≡ some (next .cursor)
+    unfolding exactly sceneOf
+    exact-past next e = ap wentTo (sym says ∙ ap stepSays e)
+
+    pub exact-stayed : {back : Walker} → step ≡ Stayed back → exactly s l c x ≡ none
+    unfolding exactly sceneOf
+    exact-stayed e = ap wentTo (sym says ∙ ap stepSays e)
+
     test : Bool
     test = ltb (useful line w) (w .limit) && sameLetter (byteAt line (useful line w)) x
 
-    pub exact-past : (next : Walker) → step ≡ Past next → past s l c x ≡ some (next .cursor)
-    unfolding past expectChar sceneOf test
-    exact-past next e = go test (sym (ap stepSays e) ∙ says)
-      where
-        go : (b : Bool) → _≡_ {A = Bool × Walker} (true, next) (select b (true, record { cursor = useful line w + 1; limit = w .limit }) (false, w))
-            → select b (some (useful line w + 1)) none ≡ some (next .cursor)
-        go true q = ap (λ (y : Bool × Walker). some (y .1 .cursor)) (sym q)
-        go false q = let z : true ≡ false = ap (λ (y : Bool × Walker). y .0) q in let k : _≡_ {A = ℕ} 0 1 = cc in absurd (omega arith)
-
-    pub exact-within : (next : Walker) → step ≡ Past next → next .cursor ≤ l
+    -- the walker past the byte stands below the limit, which stays
+    pub exact-within : (next : Walker) → step ≡ Past next → l ≤ length line → (next .cursor ≤ l) × (next .limit ≡ l)
     unfolding expectChar test held
-    exact-within next e = go test refl (sym (ap stepSays e) ∙ says)
+    exact-within next e h = go test refl (sym (ap stepSays e) ∙ says)
       where
-        go : (b : Bool) → test ≡ b → _≡_ {A = Bool × Walker} (true, next) (select b (true, record { cursor = useful line w + 1; limit = w .limit }) (false, w)) → next .cursor ≤ l
+        go : (b : Bool) → test ≡ b → _≡_ {A = Bool × Walker} (true, next) (select b (true, record { cursor = useful line w + 1; limit = w .limit }) (false, w))
+            → (next .cursor ≤ l) × (next .limit ≡ l)
         go true i q =
             let below = ltb-true (useful line w) (w .limit) (and-left (ltb (useful line w) (w .limit)) _ i) in
             let n : next .cursor ≡ useful line w + 1 = ap (λ (y : Bool × Walker). y .1 .cursor) q in
-            omega arith
+            let k : next .limit ≡ w .limit = ap (λ (y : Bool × Walker). y .1 .limit) q in
+            (omega arith, omega arith)
         go false i q = let z : true ≡ false = ap (λ (y : Bool × Walker). y .0) q in let k : _≡_ {A = ℕ} 0 1 = cc in absurd (omega arith)
-
-    pub exact-stayed : {back : Walker} → step ≡ Stayed back → past s l c x ≡ none
-    unfolding past expectChar sceneOf test
-    exact-stayed {back} e = go test (sym (ap stepSays e) ∙ says)
-      where
-        go : (b : Bool) → _≡_ {A = Bool × Walker} (false, back) (select b (true, record { cursor = useful line w + 1; limit = w .limit }) (false, w))
-            → select b (some (useful line w + 1)) none ≡ none
-        go true q = let z : false ≡ true = ap (λ (y : Bool × Walker). y .0) q in let k : _≡_ {A = ℕ} 0 1 = cc in absurd (omega arith)
-        go false q = refl
 
   module _ (step : Step) (says : stepSays step ≡ expectWhitespace line w) where
     pub gap-past : {next : Walker} → step ≡ Past next → isGap s l c ≡ true
     unfolding sceneOf
     gap-past e = sym (ap (λ (y : Bool × Walker). y .0) (sym (ap stepSays e) ∙ says))
 
-    -- it consumes nothing
-    pub gap-stays : (next : Walker) → step ≡ Past next → c ≤ l → l ≤ length line → next .cursor ≡ c
-    unfolding held
-    gap-stays next e h k =
-        let q : next .cursor ≡ w .cursor = ap (λ (y : Bool × Walker). y .1 .cursor) (sym (ap stepSays e) ∙ says) in
-        omega arith
+    -- it consumes nothing, and the limit stays
+    pub gap-stays : (next : Walker) → step ≡ Past next → c ≤ l → l ≤ length line → next ≡ record { cursor = c; limit = l }
+    gap-stays next e h k = ap (λ (y : Bool × Walker). y .1) (sym (ap stepSays e) ∙ says) ∙ held-same line (record { cursor = c; limit = l }) (h, k)
 
     pub gap-stayed : {back : Walker} → step ≡ Stayed back → isGap s l c ≡ false
     unfolding sceneOf
@@ -122,7 +113,7 @@ module _ (t line sheet : List ℕ) (depth at to l c left u : ℕ) where
       opened : {p : Part} → part ≡ p → partsBetween t at to ≡ p ∷ partsBetween t (at + 1) to
       opened e = parts-next t at to k h ∙ ap (λ (q : Part). q ∷ partsBetween t (at + 1) to) (sym is ∙ e)
 
-      pub at-exact : {x : ℕ} → part ≡ Exact x → from ≡ run (after (past (sceneOf t line sheet) l c x) (λ d. rulePlan t line sheet depth (at + 1) to l d)) (left - 1) u
+      pub at-exact : {x : ℕ} → part ≡ Exact x → from ≡ run (after (exactly (sceneOf t line sheet) l c x) (λ d. rulePlan t line sheet depth (at + 1) to l d)) (left - 1) u
       unfolding rulePlan partsPlan walk
       at-exact e = ap (λ (ps : List Part). run (partsPlan t line sheet depth ps l c) left u) (opened e) ∙ visit-more _ left u more
 
@@ -138,10 +129,10 @@ module _ (t line sheet : List ℕ) (depth at to l c left u : ℕ) where
       unfolding rulePlan partsPlan walk nestedPlan nestTurn
       at-nested e = ap (λ (ps : List Part). run (partsPlan t line sheet depth ps l c) left u) (opened e) ∙ visit-more _ left u more
 
-      pub past-exact : {x d : ℕ} → part ≡ Exact x → past (sceneOf t line sheet) l c x ≡ some d → from ≡ run (rulePlan t line sheet depth (at + 1) to l d) (left - 1) u
+      pub past-exact : {x d : ℕ} → part ≡ Exact x → exactly (sceneOf t line sheet) l c x ≡ some d → from ≡ run (rulePlan t line sheet depth (at + 1) to l d) (left - 1) u
       past-exact e q = at-exact e ∙ ap (λ (o : Option ℕ). run (after o (λ d. rulePlan t line sheet depth (at + 1) to l d)) (left - 1) u) q
 
-      pub no-exact : {x : ℕ} → part ≡ Exact x → past (sceneOf t line sheet) l c x ≡ none → from ≡ done (left - 1) u []
+      pub no-exact : {x : ℕ} → part ≡ Exact x → exactly (sceneOf t line sheet) l c x ≡ none → from ≡ done (left - 1) u []
       unfolding run
       no-exact e q = at-exact e ∙ ap (λ (o : Option ℕ). run (after o (λ d. rulePlan t line sheet depth (at + 1) to l d)) (left - 1) u) q
 
@@ -160,26 +151,35 @@ left-nothing place pool store s e = went (record { founds = []; done-with = e; m
 
 -- ---- the loop over parts
 
-pub record Along (t line sheet : List ℕ) (place : Place) (l to u : ℕ) (store₀ : List ℕ) (left₀ at₀ c₀ : ℕ) (store : List ℕ) (left at c : ℕ) : Type 0 where
+pub record Along (t line sheet : List ℕ) (place : Place) (w : Walker) (to u : ℕ) (store₀ : List ℕ) (left₀ at₀ : ℕ) (store : List ℕ) (left at : ℕ) (here : Walker) : Type 0 where
   pub same : store ≡ store₀
   pub falls : left ≤ left₀
   pub later : at₀ ≤ at
   pub within : at ≤ to
-  pub inside : c ≤ l
-  pub comes : from t line sheet (place .depth) at₀ to l c₀ left₀ u ≡ from t line sheet (place .depth) at to l c left u
+  pub inside : here .cursor ≤ w .limit
+  pub under : here .limit ≡ w .limit
+  pub comes : from t line sheet (place .depth) at₀ to (w .limit) (w .cursor) left₀ u ≡ from t line sheet (place .depth) at to (w .limit) (here .cursor) left u
 
 module _ {t line sheet starts store₀ : List ℕ} {place : Place} {w : Walker} {pool : Pool} (ready : Ready t line sheet starts store₀ place w pool) (visits : ℕ) where
-  pub along-start : Along t line sheet place (w .limit) (place .end) (pool .used) store₀ visits (place .at) (w .cursor) store₀ visits (place .at) (w .cursor)
+  pub along-start : Along t line sheet place w (place .end) (pool .used) store₀ visits (place .at) store₀ visits (place .at) w
   along-start = record {
     same = refl;
     falls = omega arith;
     later = omega arith;
     within = ready .ordered;
     inside = ready .cursor;
+    under = refl;
     comes = refl;
   }
 
-  module _ {store : List ℕ} {left at c : ℕ} (along : Along t line sheet place (w .limit) (place .end) (pool .used) store₀ visits (place .at) (w .cursor) store left at c) where
+  module _ {store : List ℕ} {left at : ℕ} {here : Walker} (along : Along t line sheet place w (place .end) (pool .used) store₀ visits (place .at) store left at here) where
+    abbrev c : ℕ
+    c = here .cursor
+
+    -- the walker has kept its limit
+    same-walker : here ≡ record { cursor = c; limit = w .limit }
+    same-walker = λ i. record { cursor = c; limit = along .under i }
+
     abbrev planned : Outcome (List Found)
     planned = ran (rulePlan t line sheet (place .depth) (place .at) (place .end) (w .limit) (w .cursor)) visits pool
 
@@ -209,48 +209,56 @@ module _ {t line sheet starts store₀ : List ℕ} {place : Place} {w : Walker} 
         nothing : from t line sheet (place .depth) at (place .end) (w .limit) c left (pool .used) ≡ done (left - 1) (pool .used) [] → Left planned place log store (Done (left - 1) pool)
         nothing e = along-left refl (left-nothing place pool store along-stored (along .comes ∙ e))
 
-        moved : {d : ℕ} → d ≤ w .limit → from t line sheet (place .depth) at (place .end) (w .limit) c left (pool .used) ≡ from t line sheet (place .depth) (at + 1) (place .end) (w .limit) d (left - 1) (pool .used)
-            → Along t line sheet place (w .limit) (place .end) (pool .used) store₀ visits (place .at) (w .cursor) store (left - 1) (at + 1) d
-        moved h e = record {
+        moved : (next : Walker) → (next .cursor ≤ w .limit) × (next .limit ≡ w .limit)
+            → from t line sheet (place .depth) at (place .end) (w .limit) c left (pool .used) ≡ from t line sheet (place .depth) (at + 1) (place .end) (w .limit) (next .cursor) (left - 1) (pool .used)
+            → Along t line sheet place w (place .end) (pool .used) store₀ visits (place .at) store (left - 1) (at + 1) next
+        moved next h e = record {
           same = along .same;
           falls = omega (arith, along .falls);
           later = omega (arith, along .later);
           within = omega (arith, before);
-          inside = h;
+          inside = h .0;
+          under = h .1;
           comes = along .comes ∙ e;
         }
 
-        module _ {x : ℕ} (exact : part ≡ Exact x) (step : Step) (says : stepSays step ≡ expectChar line x (held line (record { cursor = c; limit = w .limit }))) where
-          pub along-exact : {next : Walker} → step ≡ Past next → Along t line sheet place (w .limit) (place .end) (pool .used) store₀ visits (place .at) (w .cursor) store (left - 1) (at + 1) (next .cursor)
+        module _ {x : ℕ} (exact : part ≡ Exact x) (step : Step) (says : stepSays step ≡ expectChar line x (held line here)) where
+          says-there : stepSays step ≡ expectChar line x (walkerAt line (w .limit) c)
+          says-there = says ∙ ap (λ (v : Walker). expectChar line x (held line v)) same-walker
+
+          pub along-exact : {next : Walker} → step ≡ Past next → Along t line sheet place w (place .end) (pool .used) store₀ visits (place .at) store (left - 1) (at + 1) next
           along-exact {next} e =
-              moved (exact-within t line sheet (w .limit) c x step says next e)
+              moved next (exact-within t line sheet (w .limit) c x step says-there next e (ready .limit))
               (past-exact t line sheet (place .depth) at (place .end) (w .limit) c left (pool .used) more before (ready .whole) part is exact
-              (exact-past t line sheet (w .limit) c x step says next e))
+              (exact-past t line sheet (w .limit) c x step says-there next e))
 
           pub along-no-exact : {back : Walker} → step ≡ Stayed back → Left planned place log store (Done (left - 1) pool)
           along-no-exact e =
               nothing
               (no-exact t line sheet (place .depth) at (place .end) (w .limit) c left (pool .used) more before (ready .whole) part is exact
-              (exact-stayed t line sheet (w .limit) c x step says e))
+              (exact-stayed t line sheet (w .limit) c x step says-there e))
 
-        module _ (space : part ≡ Whitespace) (step : Step) (says : stepSays step ≡ expectWhitespace line (held line (record { cursor = c; limit = w .limit }))) where
-          pub along-whitespace : {next : Walker} → step ≡ Past next → Along t line sheet place (w .limit) (place .end) (pool .used) store₀ visits (place .at) (w .cursor) store (left - 1) (at + 1) (next .cursor)
+        module _ (space : part ≡ Whitespace) (step : Step) (says : stepSays step ≡ expectWhitespace line (held line here)) where
+          space-there : stepSays step ≡ expectWhitespace line (walkerAt line (w .limit) c)
+          space-there = says ∙ ap (λ (v : Walker). expectWhitespace line (held line v)) same-walker
+
+          pub along-whitespace : {next : Walker} → step ≡ Past next → Along t line sheet place w (place .end) (pool .used) store₀ visits (place .at) store (left - 1) (at + 1) next
           along-whitespace {next} e =
-              subst (λ (d : ℕ). Along t line sheet place (w .limit) (place .end) (pool .used) store₀ visits (place .at) (w .cursor) store (left - 1) (at + 1) d)
-              (sym (gap-stays t line sheet (w .limit) c step says next e (along .inside) (ready .limit)))
-              (moved (along .inside)
+              subst (Along t line sheet place w (place .end) (pool .used) store₀ visits (place .at) store (left - 1) (at + 1))
+              (sym (gap-stays t line sheet (w .limit) c step space-there next e (along .inside) (ready .limit)))
+              (moved (record { cursor = c; limit = w .limit }) (along .inside, refl)
               (past-whitespace t line sheet (place .depth) at (place .end) (w .limit) c left (pool .used) more before (ready .whole) part is space
-              (gap-past t line sheet (w .limit) c step says e)))
+              (gap-past t line sheet (w .limit) c step space-there e)))
 
           pub along-no-whitespace : {back : Walker} → step ≡ Stayed back → Left planned place log store (Done (left - 1) pool)
           along-no-whitespace e =
               nothing
               (no-whitespace t line sheet (place .depth) at (place .end) (w .limit) c left (pool .used) more before (ready .whole) part is space
-              (gap-stayed t line sheet (w .limit) c step says e))
+              (gap-stayed t line sheet (w .limit) c step space-there e))
 
         -- what the two steps ask
-        pub step-ready : {rest : Place} → rest ≡ pastAt place (at + 1) → Ready t line sheet starts store rest (record { cursor = c; limit = w .limit }) pool
-        step-ready {rest} e = subst (λ (q : Place). Ready t line sheet starts store q (record { cursor = c; limit = w .limit }) pool) (sym e)
+        pub step-ready : {rest : Place} → rest ≡ pastAt place (at + 1) → Ready t line sheet starts store rest here pool
+        step-ready {rest} e = subst (λ (q : Place). Ready t line sheet starts store q here pool) (sym e)
             (record {
               table = ready .table;
               extents = ready .extents;
@@ -264,23 +272,26 @@ module _ {t line sheet starts store₀ : List ℕ} {place : Place} {w : Walker} 
               whole = ready .whole;
               depth = ready .depth;
               last = ready .last;
-              cursor = along .inside;
-              limit = ready .limit;
+              cursor = omega (arith, along .inside, along .under);
+              limit = omega (arith, ready .limit, along .under);
+              top = λ z. along .under ∙ ready .top z;
             })
 
         pub ruleset-few : {r : ℕ} → part ≡ Nested r → r < 32
         ruleset-few {r} e = nested-few t line sheet (ready .table) at r (omega (arith, ready .parts, along .later)) (omega (arith, before, ready .whole)) (sym is ∙ e)
 
         pub along-expression : part ≡ Expression → {rest : Place} → rest ≡ pastAt place (at + 1) → {store′ : List ℕ} {r : Walked}
-            → Left (ran (exprPlan t line sheet (rest .depth) (rest .at) (rest .end) (w .limit) c) (left - 1) pool) rest (logOf store (pool .used)) store′ r
+            → Left (ran (exprPlan t line sheet (rest .depth) (rest .at) (rest .end) (here .limit) c) (left - 1) pool) rest (logOf store (pool .used)) store′ r
             → Left planned place log store′ r
         along-expression e {rest} q {store′} {r} m =
             along-left (along .comes ∙ at-expression t line sheet (place .depth) at (place .end) (w .limit) c left (pool .used) more before (ready .whole) part is e)
-            (left-past (subst (λ (p : Place). Left (ran (exprPlan t line sheet (p .depth) (p .at) (p .end) (w .limit) c) (left - 1) pool) p (logOf store (pool .used)) store′ r) q m))
+            (left-past (subst (λ (p : Place). Left (ran (exprPlan t line sheet (p .depth) (p .at) (p .end) (w .limit) c) (left - 1) pool) p (logOf store (pool .used)) store′ r) q
+            (subst (λ (l : ℕ). Left (ran (exprPlan t line sheet (rest .depth) (rest .at) (rest .end) l c) (left - 1) pool) rest (logOf store (pool .used)) store′ r) (along .under) m)))
 
         pub along-nested : {group : ℕ} → part ≡ Nested group → {rest : Place} → rest ≡ pastAt place (at + 1) → {store′ : List ℕ} {r : Walked}
-            → Left (ran (nestedPlan t line sheet (rest .depth) group (rest .at) (rest .end) (w .limit) c) (left - 1) pool) rest (logOf store (pool .used)) store′ r
+            → Left (ran (nestedPlan t line sheet (rest .depth) group (rest .at) (rest .end) (here .limit) c) (left - 1) pool) rest (logOf store (pool .used)) store′ r
             → Left planned place log store′ r
         along-nested {group} e {rest} q {store′} {r} m =
             along-left (along .comes ∙ at-nested t line sheet (place .depth) at (place .end) (w .limit) c left (pool .used) more before (ready .whole) part is e)
-            (left-past (subst (λ (p : Place). Left (ran (nestedPlan t line sheet (p .depth) group (p .at) (p .end) (w .limit) c) (left - 1) pool) p (logOf store (pool .used)) store′ r) q m))
+            (left-past (subst (λ (p : Place). Left (ran (nestedPlan t line sheet (p .depth) group (p .at) (p .end) (w .limit) c) (left - 1) pool) p (logOf store (pool .used)) store′ r) q
+            (subst (λ (l : ℕ). Left (ran (nestedPlan t line sheet (rest .depth) group (rest .at) (rest .end) l c) (left - 1) pool) rest (logOf store (pool .used)) store′ r) (along .under) m)))

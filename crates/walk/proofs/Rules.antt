@@ -9,7 +9,9 @@ use native.Mathlib.Numerals.{add-one}
 use lib.ListN.{length, getD, take}
 use Rattle.plain.specs.Lists.{range}
 use Rattle.plain.proofs.Lists.{range-length, range-at, listed-length, listed-at}
+use Rattle.syntax.specs.Walker.{held, limited}
 use Rattle.syntax.specs.declared.walker.Walker.{Walker}
+use Rattle.syntax.proofs.Useful.{limit-set}
 use Rattle.defs.specs.Table.{recordsIn, partsBetween, ruleSpan, ruleParts}
 use Rattle.defs.specs.Ruledef.{startsOf, beginsAt}
 use Rattle.defs.specs.declared.ruledef.Parts.{Parts}
@@ -121,6 +123,7 @@ module _ {t line sheet starts store₀ : List ℕ} {place : Place} {w : Walker} 
             last = omega arith;
             cursor = from;
             limit = omega (arith, ready .limit);
+            top = λ e. absurd (omega (arith, e));
           }
 
       parts-are : partsBetween t (parts .at) (parts .end) ≡ s .parts group k
@@ -177,53 +180,61 @@ module _ {t line sheet starts store₀ : List ℕ} {place : Place} {w : Walker} 
       abbrev xs : List ℕ
       xs = limits s (w .limit) (w .cursor) (partsBetween t (place .at) (place .end))
 
-      held : ls ≡ heldLimits xs
-      held = ls-is ∙ ap heldLimits (sheet-free-limits t line [] sheet (w .limit) (w .cursor) (partsBetween t (place .at) (place .end)))
+      listed-there : ls ≡ heldLimits xs
+      listed-there = ls-is ∙ ap heldLimits (sheet-free-limits t line [] sheet (w .limit) (w .cursor) (partsBetween t (place .at) (place .end)))
 
       few : length xs ≤ 2
       few = limits-few s (w .limit) (w .cursor) (partsBetween t (place .at) (place .end)) .1
 
       count-is : ls .count ≡ length xs
       unfolding heldLimits
-      count-is = ap (λ (e : Limits). e .count) held
+      count-is = ap (λ (e : Limits). e .count) listed-there
 
       places-are : limitsIn ls ≡ xs
       unfolding heldLimits
-      places-are = ap limitsIn held ∙ held-is 2 xs few
+      places-are = ap limitsIn listed-there ∙ held-is 2 xs few
 
       pub limit-long : length (limitsIn ls) ≡ ls .count
       limit-long = ap length places-are ∙ sym count-is
 
       pub limits-two : (ls .count ≤ 2) × (length (ls .places) ≡ 2)
       unfolding heldLimits
-      limits-two = (omega (arith, count-is, few), ap (λ (e : Limits). length (e .places)) held ∙ listed-length 2 (λ j. getD xs j 0))
+      limits-two = (omega (arith, count-is, few), ap (λ (e : Limits). length (e .places)) listed-there ∙ listed-length 2 (λ j. getD xs j 0))
 
       module _ (i : ℕ) (h : i < ls .count) (m : ℕ) (is : m ≡ getD (ls .places) i 0) where
         next-limit : m ≡ getD (limitsIn ls) i 0
         unfolding heldLimits
-        next-limit = is ∙ ap (λ (e : Limits). getD (e .places) i 0) held ∙ held-at 2 xs few i (omega (arith, count-is)) ∙ ap (λ (l : List ℕ). getD l i 0) (sym places-are)
+        next-limit = is ∙ ap (λ (e : Limits). getD (e .places) i 0) listed-there ∙ held-at 2 xs few i (omega (arith, count-is)) ∙ ap (λ (l : List ℕ). getD l i 0) (sym places-are)
 
-        pub limit-within : (w .cursor ≤ m) × (m ≤ w .limit)
+        limit-within : (w .cursor ≤ m) × (m ≤ w .limit)
         limit-within =
             limits-within s (lawful t line sheet (ready .extents)) (w .limit) (w .cursor) (partsBetween t (place .at) (place .end)) (ready .cursor) m
             (subst (λ (n : ℕ). List·Memᴰ n xs) (sym (next-limit ∙ ap (λ (l : List ℕ). getD l i 0) places-are)) (member-at xs i (omega (arith, count-is))))
 
-        module _ {v₁ u₁ v u : ℕ} {store₁ store : List ℕ} (did : LimitsDid t line sheet d group (w .cursor) ls v₁ u₁ store₁ i v u store) where
-          abbrev inner : Walker
-          inner = record { cursor = w .cursor; limit = m }
+        -- the walker under that limit
+        module _ (inner : Walker) (inner-is : inner ≡ limited line m (held line w)) where
+          inner-there : inner ≡ record { cursor = w .cursor; limit = m }
+          inner-there = inner-is ∙ limit-set line w m (ready .cursor, ready .limit) (limit-within .0) (omega (arith, limit-within .1, ready .limit))
 
-          pub limits-again : {k v′ u′ : ℕ} {store′ : List ℕ} → RulesDid t line sheet d group inner n v u store k v′ u′ store′ → n ≤ k
-              → LimitsDid t line sheet d group (w .cursor) ls v₁ u₁ store₁ (i + 1) v′ u′ store′
-          limits-again {k} {v′} {u′} {store′} rules z =
-              let all = index-end (ruleFrom t line sheet d group inner) itself (d + 1) (range 0 n) k rules (omega (arith, range-length 0 n)) in
-              index-more (underLimit t line sheet d group (w .cursor)) itself (d + 1) (limitsIn ls) i did (omega (arith, limit-long)) m 0 next-limit v′ u′ store′ (all .gave)
-              (ap (λ (p : Plan (List Match)). run p v u) (below-is inner) ∙ all .done-with) (all .made) (rules .stored .sized)
+          pub inner-within : (inner .cursor ≤ inner .limit) × (inner .limit ≤ w .limit)
+          inner-within = subst (λ (v : Walker). (v .cursor ≤ v .limit) × (v .limit ≤ w .limit)) (sym inner-there) limit-within
 
-          pub limits-stop : {a l : ℕ} → run (each (range 0 n) (ruleFrom t line sheet d group inner)) v u ≡ stop a l
-              → run (each (limitsIn ls) (underLimit t line sheet d group (w .cursor))) v₁ u₁ ≡ stop a l
-          limits-stop e =
-              index-stop (underLimit t line sheet d group (w .cursor)) itself (d + 1) (limitsIn ls) i did (omega (arith, limit-long)) m 0 next-limit
-              (ap (λ (p : Plan (List Match)). run p v u) (below-is inner) ∙ e)
+          whole-is : underLimit t line sheet d group (w .cursor) m ≡ each (range 0 n) (ruleFrom t line sheet d group inner)
+          whole-is = ap (λ (v : Walker). underLimit t line sheet d group (v .cursor) (v .limit)) (sym inner-there) ∙ below-is inner
+
+          module _ {v₁ u₁ v u : ℕ} {store₁ store : List ℕ} (did : LimitsDid t line sheet d group (w .cursor) ls v₁ u₁ store₁ i v u store) where
+            pub limits-again : {k v′ u′ : ℕ} {store′ : List ℕ} → RulesDid t line sheet d group inner n v u store k v′ u′ store′ → n ≤ k
+                → LimitsDid t line sheet d group (w .cursor) ls v₁ u₁ store₁ (i + 1) v′ u′ store′
+            limits-again {k} {v′} {u′} {store′} rules z =
+                let all = index-end (ruleFrom t line sheet d group inner) itself (d + 1) (range 0 n) k rules (omega (arith, range-length 0 n)) in
+                index-more (underLimit t line sheet d group (w .cursor)) itself (d + 1) (limitsIn ls) i did (omega (arith, limit-long)) m 0 next-limit v′ u′ store′ (all .gave)
+                (ap (λ (p : Plan (List Match)). run p v u) whole-is ∙ all .done-with) (all .made) (rules .stored .sized)
+
+            pub limits-stop : {a l : ℕ} → run (each (range 0 n) (ruleFrom t line sheet d group inner)) v u ≡ stop a l
+                → run (each (limitsIn ls) (underLimit t line sheet d group (w .cursor))) v₁ u₁ ≡ stop a l
+            limits-stop e =
+                index-stop (underLimit t line sheet d group (w .cursor)) itself (d + 1) (limitsIn ls) i did (omega (arith, limit-long)) m 0 next-limit
+                (ap (λ (p : Plan (List Match)). run p v u) whole-is ∙ e)
 
       pub limits-listed : run (each (limitsIn ls) (underLimit t line sheet d group (w .cursor))) ≡ run (each xs (underLimit t line sheet d group (w .cursor)))
       limits-listed = ap (λ (l : List ℕ). run (each l (underLimit t line sheet d group (w .cursor)))) places-are

@@ -89,10 +89,11 @@ pub record Ready (t line sheet starts store : List ℕ) (place : Place) (w : Wal
   pub parts : partsFrom t ≤ place .at
   pub ordered : place .at ≤ place .end
   pub whole : place .end ≤ length t
-  pub depth : place .depth ≤ 16
+  pub depth : place .depth ≤ depths
   pub last : place .args ≤ pool .used
   pub cursor : w .cursor ≤ w .limit
   pub limit : w .limit ≤ length line
+  pub top : place .depth ≡ 0 → w .limit ≡ length line
 
 -- ---- what a walk gives
 

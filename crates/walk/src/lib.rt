@@ -13,7 +13,7 @@ use syntax::walker::Walker;
 ghost use mathlib.Core.Path.{_≡_};
 ghost use Prim.Native.Nat.{ℕ, _+_, _<_, _≤_, min};
 ghost use lib.ListN.{length};
-ghost use Rattle.readings.specs.Walk.{anySame, sameMatch};
+ghost use Rattle.readings.specs.Walk.{anySame, depths, sameMatch};
 ghost use Rattle.pool.specs.Log.{logOf};
 ghost use Rattle.pool.specs.Meaning.{Stored, entries, treeAt, gathered};
 ghost use Rattle.walk.specs.Met.{Ready, Left, finishPlan, rulePlan, exprPlan, nestedPlan, ran, pastAt, afterArg, made, InnerOf};
@@ -92,25 +92,28 @@ fn finish(
     line: &[u8],
     store: &mut [usize],
     place: Place,
-    cursor: usize,
+    walker: Walker,
     left: usize,
     pool: Pool,
 ) -> Walked
     requires { ⌜ Stored (now store) (pool .used) ⌝ }
     requires { ⌜ place .set < 32 ⌝ }
     requires { ⌜ place .rule < 512 ⌝ }
-    requires { ⌜ place .depth ≤ 16 ⌝ }
+    requires { ⌜ place .depth ≤ depths ⌝ }
     requires { ⌜ place .args ≤ pool .used ⌝ }
-    requires { ⌜ cursor < 128 ⌝ }
-    ensures { λ r. ⌜ Left (ran (finishPlan (length (now (line .entry))) (place .depth) cursor) left pool) place (logOf (now (store .entry)) (pool .used)) (now (store .exit)) r ⌝ }
+    requires { ⌜ walker .cursor < 128 ⌝ }
+    requires { ⌜ walker .cursor ≤ walker .limit ⌝ }
+    requires { ⌜ (place .depth ≡ 0 → walker .limit ≡ length (now line)) ⌝ }
+    ensures { λ r. ⌜ Left (ran (finishPlan (length (now (line .entry))) (place .depth) (walker .cursor)) left pool) place (logOf (now (store .entry)) (pool .used)) (now (store .exit)) r ⌝ }
 {
     let depth = place.depth;
     if depth == 0 {
-        if cursor != line.len() {
+        if !walker.is_over(line) {
             return Walked::Done(left, pool);
         }
     }
-    match pool.complete(store, depth, place.set, place.rule, place.args, cursor) {
+    let end = walker.get_cursor_index();
+    match pool.complete(store, depth, place.set, place.rule, place.args, end) {
         Room::Taken(more) => Walked::Done(left, more),
         Room::Full => Walked::Stopped(Refusal::Full, left),
     }
@@ -186,8 +189,7 @@ pub fn match_with_rule(
 {
     let mut left = visits;
     let mut at = place.at;
-    let mut cursor = walker.cursor;
-    let limit = walker.limit;
+    let mut here = walker;
     let end = place.end;
     loop {
         if left == 0 {
@@ -195,17 +197,16 @@ pub fn match_with_rule(
         }
         left -= 1;
         if at == end {
-            return finish(line, store, place, cursor, left, pool);
+            return finish(line, store, place, here, left, pool);
         }
         let part = ruledef::part_at(table, at);
         at += 1;
-        let here = Walker { cursor, limit };
         match part {
             Part::Exact(b) => {
                 let step = here.maybe_expect_char(line, b);
                 match step {
                     Step::Past(next) => {
-                        cursor = next.cursor;
+                        here = next;
                     }
                     Step::Stayed(_) => {
                         return Walked::Done(left, pool);
@@ -217,7 +218,7 @@ pub fn match_with_rule(
                 match step {
                     // It consumes nothing: the walker comes back where it stood.
                     Step::Past(same) => {
-                        cursor = same.cursor;
+                        here = same;
                     }
                     Step::Stayed(_) => {
                         return Walked::Done(left, pool);
@@ -263,7 +264,6 @@ fn match_with_expr(
     ensures { λ r. ⌜ Left (ran (exprPlan (now (table .entry)) (now (line .entry)) (now (sheet .entry)) (place .depth) (place .at) (place .end) (walker .limit) (walker .cursor)) visits pool) place (logOf (now (store .entry)) (pool .used)) (now (store .exit)) r ⌝ }
 {
     let useful = walker.next_useful_index(line);
-    let limit = walker.limit;
     let ends = lookahead::find_ends(table, line, sheet, walker, place.at, place.end);
     let mut left = visits;
     let mut has = pool;
@@ -284,7 +284,7 @@ fn match_with_expr(
             }
             Room::Taken(more) => {
                 let next = place.after(more.used);
-                let moved = Walker { cursor: end, limit };
+                let moved = walker.set_cursor_index(line, end);
                 let got = match_with_rule(
                     table,
                     line,
@@ -334,8 +334,6 @@ fn match_with_nested_ruledef(
         return Walked::Stopped(Refusal::Deep, visits);
     }
     let useful = walker.next_useful_index(line);
-    let cursor = walker.cursor;
-    let limit = walker.limit;
     let limits = lookahead::find_limits(table, line, walker, place.at, place.end);
     let begin = starts[set] as usize;
     let count = starts[set + 1] as usize - begin;
@@ -344,10 +342,7 @@ fn match_with_nested_ruledef(
     let mut has = pool;
     let mut pass = 0;
     while pass < limits.count {
-        let inner = Walker {
-            cursor,
-            limit: limits.places[pass],
-        };
+        let inner = walker.set_cursor_limit(line, limits.places[pass]);
         pass += 1;
         let mut rule = 0;
         while rule < count {
@@ -395,7 +390,7 @@ fn match_with_nested_ruledef(
                     }
                     Room::Taken(more) => {
                         let next = place.after(more.used);
-                        let moved = Walker { cursor: end, limit };
+                        let moved = walker.set_cursor_index(line, end);
                         let got = match_with_rule(
                             table,
                             line,

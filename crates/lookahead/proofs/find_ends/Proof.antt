@@ -6,6 +6,12 @@ use Rattle.lookahead.proofs.Stored.{held-none, room-two, room-three, en
 use Rattle.lookahead.proofs.find_ends.Statement.{statement}
 use Rattle.lookahead.proofs.find_ends.Tie as tie
 
+get-cursor-index-requires : tie.Need-get-cursor-index-requires
+get-cursor-index-requires c κs = search needs
+
+get-cursor-limit-requires : tie.Need-get-cursor-limit-requires
+get-cursor-limit-requires c κs = search needs
+
 free-requires : tie.Need-free-requires
 free-requires c κs = search needs
 
@@ -28,12 +34,14 @@ add-end-requires-3 : tie.Need-add-end-requires-3
 add-end-requires-3 c κs = room-three _ _ _ _ (c .before .add-end2 .ensures _ (c .before .before .before .before .add-end .ensures [] held-none))
 
 returns : tie.Need-returns
-returns c = c .add-end3 .ensures _ (c .before .before .add-end2 .ensures _ (c .before .before .before .before .before .add-end .ensures [] held-none)) ∙ ends-held _ _ _ _ _ _ (c .before .before .before .before .before .before .free .result) (c .before .before .before .free-to-cut .result) (c .before .greedy .result) (c .before .before .before .before .find-cut .result) (c .before .before .before .before .before .before .free .ensures) (c .before .before .before .before .find-cut .ensures) (c .before .before .before .free-to-cut .ensures) (c .before .greedy .ensures)
+returns c = c .add-end3 .ensures _ (c .before .before .add-end2 .ensures _ (c .before .before .before .before .before .add-end .ensures [] held-none)) ∙ ends-held _ _ _ _ _ _ (c .before .before .before .before .before .before .before .get-cursor-limit .ensures) (c .before .before .before .before .before .before .before .before .get-cursor-index .ensures) _ (c .before .before .before .before .before .before .free .result) (c .before .before .before .free-to-cut .result) (c .before .greedy .result) (c .before .before .before .before .find-cut .result) (c .before .before .before .before .before .before .free .ensures) (c .before .before .before .before .find-cut .ensures) (c .before .before .before .free-to-cut .ensures) (c .before .greedy .ensures)
 
 pub find-ends-spec : {M : Type 1} → statement M
 find-ends-spec =
     tie.close
     (tie.spec
+    get-cursor-index-requires
+    get-cursor-limit-requires
     free-requires
     add-end-requires
     find-cut-requires

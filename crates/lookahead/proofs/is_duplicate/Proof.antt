@@ -5,17 +5,16 @@ use native.Mathlib.Omega.{arith}
 use lib.ListN.{length}
 use lib.Seq.{slice}
 use borrow.Author.Needs.{needs}
-use Rattle.readings.specs.Walk.{anySame}
-use Rattle.lookahead.specs.Held.{samePlace}
+use Rattle.readings.specs.Walk.{anySame, sameEnd}
 use Rattle.lookahead.proofs.Stored.{place-same, place-other, any-here, any-later, any-none}
 use Rattle.lookahead.proofs.is_duplicate.Statement.{statement}
 use Rattle.lookahead.proofs.is_duplicate.Tie as tie
 
 abbrev Inv-loop : tie.InvT-loop
-Inv-loop line limit end ends place i₀ i = anySame (samePlace line limit) (slice i (ends .count) (ends .places)) end ≡ anySame (samePlace line limit) (slice 0 (ends .count) (ends .places)) end
+Inv-loop line walker end ends place i₀ i = anySame (sameEnd line (walker .limit)) (slice i (ends .count) (ends .places)) end ≡ anySame (sameEnd line (walker .limit)) (slice 0 (ends .count) (ends .places)) end
 
 abbrev μ-loop : tie.MeasureT-loop
-μ-loop line limit end ends place i₀ i = ends .count - i
+μ-loop line walker end ends place i₀ i = ends .count - i
 
 useful-place-requires : tie.Need-useful-place-requires Inv-loop μ-loop
 useful-place-requires c κs = search needs

@@ -1,6 +1,6 @@
 -- The cycle of the three functions. The visits left fall: 2 * visits for the rule walk, one more for the two steps, which a
 -- rule walk calls after its visit. Each answer is a law of the files beside, at the place where the code has come.
-use mathlib.Core.Path.{refl, ap}
+use mathlib.Core.Path.{refl, ap, _∙_}
 use Prim.Native.Nat.{ℕ, _+_, _-_, _*_, _<_}
 use native.Mathlib.Omega.{arith}
 use lib.ListN.{length}
@@ -9,7 +9,7 @@ use borrow.Fn.Kinds.{In}
 use borrow.Fn.PlainCycle.{Measures, is, falls, and}
 use Rattle.walk.proofs.Places.{Along, along-start, along-stored, along-spent, along-end, along-exact, along-no-exact, along-whitespace, along-no-whitespace, along-expression, along-nested, step-ready, ruleset-few}
 use Rattle.walk.proofs.Exprs.{ExprDid, expr-start, expr-end, expr-fits, expr-full, expr-ready, expr-again, expr-halt, ends-three}
-use Rattle.walk.proofs.Rules.{RulesDid, LimitsDid, starts-long, starts-ordered, starts-few, rule-ready, rules-again, rules-stop, rules-start, limits-start, limits-again, limits-stop, limits-two, limit-within}
+use Rattle.walk.proofs.Rules.{RulesDid, LimitsDid, starts-long, starts-ordered, starts-few, rule-ready, rules-again, rules-stop, rules-start, limits-start, limits-again, limits-stop, limits-two, inner-within}
 use Rattle.walk.proofs.Nests.{NestDid, nest-start, nest-skip, nest-fits, nest-member, nest-full, nest-ready, nest-again, nest-halt, nest-used, nested-deep, nested-stop, nested-grown, nested-within, nested-halt, nested-done}
 use Rattle.walk.proofs.match_with_expr.Reads as expr
 use Rattle.walk.proofs.match_with_expr.Kinds as expr-kinds
@@ -33,6 +33,8 @@ use Rattle.pool.proofs.Pool.keep.Reads as keep
 use Rattle.syntax.proofs.walker.Walker.maybe_expect_char.Reads as maybe-expect-char
 use Rattle.syntax.proofs.walker.Walker.maybe_expect_whitespace.Reads as maybe-expect-whitespace
 use Rattle.syntax.proofs.walker.Walker.next_useful_index.Reads as next-useful-index
+use Rattle.syntax.proofs.walker.Walker.set_cursor_index.Reads as set-cursor-index
+use Rattle.syntax.proofs.walker.Walker.set_cursor_limit.Reads as set-cursor-limit
 use Rattle.walk.proofs.+match_with_expr+match_with_nested_ruledef+match_with_rule.{statement}
 use Rattle.walk.proofs.+match_with_expr+match_with_nested_ruledef+match_with_rule.Tie.{close}
 
@@ -65,48 +67,48 @@ r-below t = and 5 rule-kinds.ps (falls 5 rule-kinds.ps _<_ μ-r t) rule.Pre
 
 -- what each member is given of the functions that it calls
 abbrev e-calls : ℕ → E.Claims
-e-calls t = (next-useful-index.Asked, next-useful-index.Learnt, find-ends.Asked, find-ends.Learnt, least.Asked, least.Learnt, keep.Asked, keep.Learnt, after.Asked, after.Learnt, r-below t, rule.Post)
+e-calls t = (next-useful-index.Asked, next-useful-index.Learnt, find-ends.Asked, find-ends.Learnt, least.Asked, least.Learnt, keep.Asked, keep.Learnt, after.Asked, after.Learnt, set-cursor-index.Asked, set-cursor-index.Learnt, r-below t, rule.Post)
 
 abbrev n-calls : ℕ → N.Claims
-n-calls t = (next-useful-index.Asked, next-useful-index.Learnt, find-limits.Asked, find-limits.Learnt, parts-of.Asked, parts-of.Learnt, r-below t, rule.Post, inner-match.Asked, inner-match.Learnt, least.Asked, least.Learnt, keep.Asked, keep.Learnt, after.Asked, after.Learnt)
+n-calls t = (next-useful-index.Asked, next-useful-index.Learnt, find-limits.Asked, find-limits.Learnt, set-cursor-limit.Asked, set-cursor-limit.Learnt, parts-of.Asked, parts-of.Learnt, r-below t, rule.Post, inner-match.Asked, inner-match.Learnt, least.Asked, least.Learnt, keep.Asked, keep.Learnt, after.Asked, after.Learnt, set-cursor-index.Asked, set-cursor-index.Learnt)
 
 abbrev r-calls : ℕ → R.Claims
 r-calls t = (finish.Asked, finish.Learnt, part-at.Asked, part-at.Learnt, maybe-expect-char.Asked, maybe-expect-char.Learnt, maybe-expect-whitespace.Asked, maybe-expect-whitespace.Learnt, past.Asked, past.Learnt, e-below t, expr.Post, n-below t, nested.Post)
 
 abbrev e-Inv : E.InvT-loop
-e-Inv table line sheet starts store₀ place visits useful limit ends left₀ has₀ i₀ store left has i =
-    ExprDid table line sheet place limit useful ends left₀ (has₀ .used) store₀ i left (has .used) store
+e-Inv table line sheet starts store₀ place walker visits useful ends left₀ has₀ i₀ store left has i =
+    ExprDid table line sheet place (walker .limit) useful ends left₀ (has₀ .used) store₀ i left (has .used) store
 
 abbrev e-μ : E.MeasureT-loop
-e-μ table line sheet starts store₀ place visits useful limit ends left₀ has₀ i₀ store left has i = ends .count - i
+e-μ table line sheet starts store₀ place walker visits useful ends left₀ has₀ i₀ store left has i = ends .count - i
 
 abbrev n-Inv2 : N.InvT-loop2
-n-Inv2 table line sheet starts store₀ set place visits depth useful cursor limit limits begin count first left₀ has₀ pass inner rule₀ store left has rule =
+n-Inv2 table line sheet starts store₀ set place walker visits depth useful limits begin count first left₀ has₀ pass inner rule₀ store left has rule =
     RulesDid table line sheet depth set inner count left₀ (has₀ .used) store₀ rule left (has .used) store
 
 abbrev n-μ2 : N.MeasureT-loop2
-n-μ2 table line sheet starts store₀ set place visits depth useful cursor limit limits begin count first left₀ has₀ pass inner rule₀ store left has rule = count - rule
+n-μ2 table line sheet starts store₀ set place walker visits depth useful limits begin count first left₀ has₀ pass inner rule₀ store left has rule = count - rule
 
 abbrev n-Inv : N.InvT-loop
-n-Inv table line sheet starts store₀ set place visits depth useful cursor limit limits begin count first left₀ has₀ pass₀ store left has pass =
-    LimitsDid table line sheet depth set cursor limits left₀ (has₀ .used) store₀ pass left (has .used) store
+n-Inv table line sheet starts store₀ set place walker visits depth useful limits begin count first left₀ has₀ pass₀ store left has pass =
+    LimitsDid table line sheet depth set (walker .cursor) limits left₀ (has₀ .used) store₀ pass left (has .used) store
 
 abbrev n-μ : N.MeasureT-loop
-n-μ table line sheet starts store₀ set place visits depth useful cursor limit limits begin count first left₀ has₀ pass₀ store left has pass = limits .count - pass
+n-μ table line sheet starts store₀ set place walker visits depth useful limits begin count first left₀ has₀ pass₀ store left has pass = limits .count - pass
 
 abbrev n-Inv3 : N.InvT-loop3
-n-Inv3 table line sheet starts store₀ set place visits depth useful cursor limit begin count first left₀ has₀ pass last m₀ store left has m =
-    NestDid table line sheet place limit useful first left₀ (has₀ .used) store₀ m left (has .used) store
+n-Inv3 table line sheet starts store₀ set place walker visits depth useful begin count first left₀ has₀ pass last m₀ store left has m =
+    NestDid table line sheet place (walker .limit) useful first left₀ (has₀ .used) store₀ m left (has .used) store
 
 abbrev n-μ3 : N.MeasureT-loop3
-n-μ3 table line sheet starts store₀ set place visits depth useful cursor limit begin count first left₀ has₀ pass last m₀ store left has m = last - m
+n-μ3 table line sheet starts store₀ set place walker visits depth useful begin count first left₀ has₀ pass last m₀ store left has m = last - m
 
 abbrev r-Inv : R.InvT-loop
-r-Inv table line sheet starts store₀ place visits pool left₀ at₀ cursor₀ limit end store left at cursor =
-    Along table line sheet place limit end (pool .used) store₀ left₀ at₀ cursor₀ store left at cursor
+r-Inv table line sheet starts store₀ place visits pool left₀ at₀ here₀ end store left at here =
+    Along table line sheet place here₀ end (pool .used) store₀ left₀ at₀ store left at here
 
 abbrev r-μ : R.MeasureT-loop
-r-μ table line sheet starts store₀ place visits pool left₀ at₀ cursor₀ limit end store left at cursor = left
+r-μ table line sheet starts store₀ place visits pool left₀ at₀ here₀ end store left at here = left
 
 e-next-useful-index-requires : (t : ℕ) → E.Need-next-useful-index-requires (e-calls t) (e-at t) expr.Post e-Inv e-μ
 e-next-useful-index-requires t c κs = search needs
@@ -188,42 +190,49 @@ e-enum-known-room t c = search needs
 e-after-requires : (t : ℕ) → E.Need-after-requires (e-calls t) (e-at t) expr.Post e-Inv e-μ
 e-after-requires t c κs = search needs
 
+e-set-cursor-index-requires : (t : ℕ) → E.Need-set-cursor-index-requires (e-calls t) (e-at t) expr.Post e-Inv e-μ
+e-set-cursor-index-requires t c κs = search needs
+
 e-match-with-rule-requires : (t : ℕ) → E.Need-match-with-rule-requires (e-calls t) (e-at t) expr.Post e-Inv e-μ
 e-match-with-rule-requires t c κs =
-    let c-loop = c .before .before .before .before .before .before .before .before .before .before .before .before .loop in
-    let c-pre = c .before .before .before .before .before .before .before .before .before .before .before .before .before .before .before .before .before .before .before .before .pre in
-    let c-next-useful-index = c .before .before .before .before .before .before .before .before .before .before .before .before .before .before .next-useful-index in
-    let c-find-ends = c .before .before .before .before .before .before .before .before .before .before .before .before .before .find-ends in
-    let c-loop-test = c .before .before .before .before .before .before .before .before .before .before .before .loop-test in
-    let c-least = c .before .before .before .before .before .before .before .before .before .least in
-    let c-room = c .before .before .before .room in
-    let c-keep = c .before .before .before .before .before .before .before .keep in
-    let c-after = c .before .after in (
+    let c-loop = c .before .before .before .before .before .before .before .before .before .before .before .before .before .loop in
+    let c-pre = c .before .before .before .before .before .before .before .before .before .before .before .before .before .before .before .before .before .before .before .before .before .pre in
+    let c-next-useful-index = c .before .before .before .before .before .before .before .before .before .before .before .before .before .before .before .next-useful-index in
+    let c-find-ends = c .before .before .before .before .before .before .before .before .before .before .before .before .before .before .find-ends in
+    let c-loop-test = c .before .before .before .before .before .before .before .before .before .before .before .before .loop-test in
+    let c-least = c .before .before .before .before .before .before .before .before .before .before .least in
+    let c-room = c .before .before .before .before .room in
+    let c-keep = c .before .before .before .before .before .before .before .before .keep in
+    let c-after = c .before .before .after in
+    let c-set-cursor-index = c .before .set-cursor-index in (
       omega (arith, c-loop .inv .falls, c-pre .0),
       expr-ready (c-pre .1) _ _ (c-next-useful-index .ensures) _ (c-find-ends .ensures) (c-loop .inv) (c-loop-test .taken) _ refl _ (c-least .ensures) _ _ (rw (c-room .given .1) at (c-keep .ensures .log)) (c-after .ensures)
-          (omega (arith, c-keep .kept, c-loop .inv .stored .sized)),
+          (omega (arith, c-keep .kept, c-loop .inv .stored .sized)) (c-set-cursor-index .ensures),
     )
 
 e-enum-known-got : (t : ℕ) → E.Need-enum-known-got (e-calls t) (e-at t) expr.Post e-Inv e-μ
 e-enum-known-got t c = search needs
 
 e-loop-less : (t : ℕ) → E.Need-loop-less (e-calls t) (e-at t) expr.Post e-Inv e-μ
-e-loop-less t c = search needs
+e-loop-less t c =
+    let c-loop-test = c .before .before .before .before .before .before .before .before .before .before .before .before .before .before .before .before .before .before .loop-test in
+    omega (arith, c-loop-test .taken)
 
 e-loop-again : (t : ℕ) → E.Need-loop-again (e-calls t) (e-at t) expr.Post e-Inv e-μ
 e-loop-again t c =
-    let c-pre = c .before .before .before .before .before .before .before .before .before .before .before .before .before .before .before .before .before .before .before .before .before .before .before .before .before .before .pre in
-    let c-next-useful-index = c .before .before .before .before .before .before .before .before .before .before .before .before .before .before .before .before .before .before .before .before .next-useful-index in
-    let c-find-ends = c .before .before .before .before .before .before .before .before .before .before .before .before .before .before .before .before .before .before .before .find-ends in
-    let c-loop = c .before .before .before .before .before .before .before .before .before .before .before .before .before .before .before .before .before .before .loop in
-    let c-loop-test = c .before .before .before .before .before .before .before .before .before .before .before .before .before .before .before .before .before .loop-test in
-    let c-least = c .before .before .before .before .before .before .before .before .before .before .before .before .before .before .before .least in
-    let c-room = c .before .before .before .before .before .before .before .before .before .room in
-    let c-keep = c .before .before .before .before .before .before .before .before .before .before .before .before .before .keep in
-    let c-after = c .before .before .before .before .before .before .before .after in
+    let c-pre = c .before .before .before .before .before .before .before .before .before .before .before .before .before .before .before .before .before .before .before .before .before .before .before .before .before .before .before .pre in
+    let c-next-useful-index = c .before .before .before .before .before .before .before .before .before .before .before .before .before .before .before .before .before .before .before .before .before .next-useful-index in
+    let c-find-ends = c .before .before .before .before .before .before .before .before .before .before .before .before .before .before .before .before .before .before .before .before .find-ends in
+    let c-loop = c .before .before .before .before .before .before .before .before .before .before .before .before .before .before .before .before .before .before .before .loop in
+    let c-loop-test = c .before .before .before .before .before .before .before .before .before .before .before .before .before .before .before .before .before .before .loop-test in
+    let c-least = c .before .before .before .before .before .before .before .before .before .before .before .before .before .before .before .before .least in
+    let c-room = c .before .before .before .before .before .before .before .before .before .before .room in
+    let c-keep = c .before .before .before .before .before .before .before .before .before .before .before .before .before .before .keep in
+    let c-after = c .before .before .before .before .before .before .before .before .after in
+    let c-set-cursor-index = c .before .before .before .before .before .before .before .set-cursor-index in
     let c-match-with-rule = c .before .before .before .before .before .match-with-rule in
     let c-got = c .before .got in
-    expr-again (c-pre .1) _ _ (c-next-useful-index .ensures) _ (c-find-ends .ensures) (c-loop .inv) (c-loop-test .taken) _ refl _ (c-least .ensures) _ _ (rw (c-room .given .1) at (c-keep .ensures .log)) (c-after .ensures) (c-match-with-rule .ensures) (c-got .given .1)
+    expr-again (c-pre .1) _ _ (c-next-useful-index .ensures) _ (c-find-ends .ensures) (c-loop .inv) (c-loop-test .taken) _ refl _ (c-least .ensures) _ _ (rw (c-room .given .1) at (c-keep .ensures .log)) (c-after .ensures) (c-set-cursor-index .ensures) (c-match-with-rule .ensures) (c-got .given .1)
     (omega (arith, c-match-with-rule .kept, c-keep .kept, c-loop .inv .stored .sized))
 
 e-enum-known-got-2 : (t : ℕ) → E.Need-enum-known-got-2 (e-calls t) (e-at t) expr.Post e-Inv e-μ
@@ -232,25 +241,26 @@ e-enum-known-got-2 t c = search needs
 e-same-length-2 : (t : ℕ) → E.Need-same-length-2 (e-calls t) (e-at t) expr.Post e-Inv e-μ
 e-same-length-2 t c =
     let c-match-with-rule = c .before .before .before .before .before .match-with-rule in
-    let c-keep = c .before .before .before .before .before .before .before .before .before .before .before .before .before .keep in
-    let c-loop = c .before .before .before .before .before .before .before .before .before .before .before .before .before .before .before .before .before .before .loop in
-    let c-pre = c .before .before .before .before .before .before .before .before .before .before .before .before .before .before .before .before .before .before .before .before .before .before .before .before .before .before .pre in
+    let c-keep = c .before .before .before .before .before .before .before .before .before .before .before .before .before .before .keep in
+    let c-loop = c .before .before .before .before .before .before .before .before .before .before .before .before .before .before .before .before .before .before .before .loop in
+    let c-pre = c .before .before .before .before .before .before .before .before .before .before .before .before .before .before .before .before .before .before .before .before .before .before .before .before .before .before .before .pre in
     omega (arith, c-match-with-rule .kept, c-keep .kept, c-loop .inv .stored .sized, c-pre .1 .stored .sized)
 
 e-returns-2 : (t : ℕ) → E.Need-returns-2 (e-calls t) (e-at t) expr.Post e-Inv e-μ
 e-returns-2 t c =
-    let c-pre = c .before .before .before .before .before .before .before .before .before .before .before .before .before .before .before .before .before .before .before .before .before .before .before .before .before .before .pre in
-    let c-next-useful-index = c .before .before .before .before .before .before .before .before .before .before .before .before .before .before .before .before .before .before .before .before .next-useful-index in
-    let c-find-ends = c .before .before .before .before .before .before .before .before .before .before .before .before .before .before .before .before .before .before .before .find-ends in
-    let c-loop = c .before .before .before .before .before .before .before .before .before .before .before .before .before .before .before .before .before .before .loop in
-    let c-loop-test = c .before .before .before .before .before .before .before .before .before .before .before .before .before .before .before .before .before .loop-test in
-    let c-least = c .before .before .before .before .before .before .before .before .before .before .before .before .before .before .before .least in
-    let c-room = c .before .before .before .before .before .before .before .before .before .room in
-    let c-keep = c .before .before .before .before .before .before .before .before .before .before .before .before .before .keep in
-    let c-after = c .before .before .before .before .before .before .before .after in
+    let c-pre = c .before .before .before .before .before .before .before .before .before .before .before .before .before .before .before .before .before .before .before .before .before .before .before .before .before .before .before .pre in
+    let c-next-useful-index = c .before .before .before .before .before .before .before .before .before .before .before .before .before .before .before .before .before .before .before .before .before .next-useful-index in
+    let c-find-ends = c .before .before .before .before .before .before .before .before .before .before .before .before .before .before .before .before .before .before .before .before .find-ends in
+    let c-loop = c .before .before .before .before .before .before .before .before .before .before .before .before .before .before .before .before .before .before .before .loop in
+    let c-loop-test = c .before .before .before .before .before .before .before .before .before .before .before .before .before .before .before .before .before .before .loop-test in
+    let c-least = c .before .before .before .before .before .before .before .before .before .before .before .before .before .before .before .before .least in
+    let c-room = c .before .before .before .before .before .before .before .before .before .before .room in
+    let c-keep = c .before .before .before .before .before .before .before .before .before .before .before .before .before .before .keep in
+    let c-after = c .before .before .before .before .before .before .before .before .after in
+    let c-set-cursor-index = c .before .before .before .before .before .before .before .set-cursor-index in
     let c-match-with-rule = c .before .before .before .before .before .match-with-rule in
     let c-got2 = c .before .got2 in
-    expr-halt (c-pre .1) _ _ (c-next-useful-index .ensures) _ (c-find-ends .ensures) (c-loop .inv) (c-loop-test .taken) _ refl _ (c-least .ensures) _ _ (rw (c-room .given .1) at (c-keep .ensures .log)) (c-after .ensures) (c-match-with-rule .ensures) (c-got2 .given .1)
+    expr-halt (c-pre .1) _ _ (c-next-useful-index .ensures) _ (c-find-ends .ensures) (c-loop .inv) (c-loop-test .taken) _ refl _ (c-least .ensures) _ _ (rw (c-room .given .1) at (c-keep .ensures .log)) (c-after .ensures) (c-set-cursor-index .ensures) (c-match-with-rule .ensures) (c-got2 .given .1)
 
 e-same-length-3 : (t : ℕ) → E.Need-same-length-3 (e-calls t) (e-at t) expr.Post e-Inv e-μ
 e-same-length-3 t c =
@@ -327,93 +337,98 @@ n-loop-holds t c =
     let c-find-limits = c .before .before .find-limits in
     limits-start (c-pre .1 .0) _ (c-pre .1 .1) (c-if1 .left) (c-find-limits .result) _
 
-n-mul-t56 : (t : ℕ) → N.Need-mul-t56 (n-calls t) (n-at t) nested.Post n-Inv2 n-μ2 n-Inv n-μ n-Inv3 n-μ3
-n-mul-t56 t c =
+n-mul-set-cursor-limit : (t : ℕ) → N.Need-mul-set-cursor-limit (n-calls t) (n-at t) nested.Post n-Inv2 n-μ2 n-Inv n-μ n-Inv3 n-μ3
+n-mul-set-cursor-limit t c =
     let c-pre = c .before .before .before .before .before .before .before .before .before .before .before .before .pre in
     let c-if1 = c .before .before .before .before .before .before .if1 in
     let c-find-limits = c .before .before .before .before .find-limits in
     let c-loop-test = c .loop-test in
     omega (arith, limits-two (c-pre .1 .0) _ (c-pre .1 .1) (c-if1 .left) _ _ refl refl _ (c-find-limits .ensures), c-loop-test .taken)
 
-n-element-copy-out-t60 : (t : ℕ) → N.Need-element-copy-out-t60 (n-calls t) (n-at t) nested.Post n-Inv2 n-μ2 n-Inv n-μ n-Inv3 n-μ3
-n-element-copy-out-t60 t c =
+n-element-copy-out-set-cursor-limit : (t : ℕ) → N.Need-element-copy-out-set-cursor-limit (n-calls t) (n-at t) nested.Post n-Inv2 n-μ2 n-Inv n-μ n-Inv3 n-μ3
+n-element-copy-out-set-cursor-limit t c =
     let c-pre = c .before .before .before .before .before .before .before .before .before .before .before .before .pre in
     let c-if1 = c .before .before .before .before .before .before .if1 in
     let c-find-limits = c .before .before .before .before .find-limits in
     let c-loop-test = c .loop-test in
     omega (arith, limits-two (c-pre .1 .0) _ (c-pre .1 .1) (c-if1 .left) _ _ refl refl _ (c-find-limits .ensures), c-loop-test .taken)
+
+n-set-cursor-limit-requires : (t : ℕ) → N.Need-set-cursor-limit-requires (n-calls t) (n-at t) nested.Post n-Inv2 n-μ2 n-Inv n-μ n-Inv3 n-μ3
+n-set-cursor-limit-requires t c κs = search needs
 
 n-add-pass : (t : ℕ) → N.Need-add-pass (n-calls t) (n-at t) nested.Post n-Inv2 n-μ2 n-Inv n-μ n-Inv3 n-μ3
 n-add-pass t c =
-    let c-pre = c .before .before .before .before .before .before .before .before .before .before .before .before .before .pre in
-    let c-if1 = c .before .before .before .before .before .before .before .if1 in
-    let c-find-limits = c .before .before .before .before .before .find-limits in
-    let c-loop-test = c .before .loop-test in
+    let c-pre = c .before .before .before .before .before .before .before .before .before .before .before .before .before .before .pre in
+    let c-if1 = c .before .before .before .before .before .before .before .before .if1 in
+    let c-find-limits = c .before .before .before .before .before .before .find-limits in
+    let c-loop-test = c .before .before .loop-test in
     omega (arith, limits-two (c-pre .1 .0) _ (c-pre .1 .1) (c-if1 .left) _ _ refl refl _ (c-find-limits .ensures), c-loop-test .taken)
 
 n-loop2-holds : (t : ℕ) → N.Need-loop2-holds (n-calls t) (n-at t) nested.Post n-Inv2 n-μ2 n-Inv n-μ n-Inv3 n-μ3
 n-loop2-holds t c =
-    let c-pre = c .before .before .before .before .before .before .before .before .before .before .before .before .before .pre in
-    let c-if1 = c .before .before .before .before .before .before .before .if1 in
-    let c-loop = c .before .before .loop in
+    let c-pre = c .before .before .before .before .before .before .before .before .before .before .before .before .before .before .pre in
+    let c-if1 = c .before .before .before .before .before .before .before .before .if1 in
+    let c-loop = c .before .before .before .loop in
     rules-start (c-pre .1 .0) _ (c-pre .1 .1) (c-if1 .left) _ _ refl refl _ _ _ _ (c-loop .inv .stored)
 
 n-loop-less : (t : ℕ) → N.Need-loop-less (n-calls t) (n-at t) nested.Post n-Inv2 n-μ2 n-Inv n-μ n-Inv3 n-μ3
 n-loop-less t c =
-    let c-loop-test = c .before .before .before .loop-test in
+    let c-loop-test = c .before .before .before .before .loop-test in
     omega (arith, c-loop-test .taken)
 
 n-loop-again : (t : ℕ) → N.Need-loop-again (n-calls t) (n-at t) nested.Post n-Inv2 n-μ2 n-Inv n-μ n-Inv3 n-μ3
 n-loop-again t c =
-    let c-pre = c .before .before .before .before .before .before .before .before .before .before .before .before .before .before .before .pre in
-    let c-if1 = c .before .before .before .before .before .before .before .before .before .if1 in
-    let c-find-limits = c .before .before .before .before .before .before .before .find-limits in
-    let c-loop-test = c .before .before .before .loop-test in
-    let c-loop = c .before .before .before .before .loop in
+    let c-pre = c .before .before .before .before .before .before .before .before .before .before .before .before .before .before .before .before .pre in
+    let c-if1 = c .before .before .before .before .before .before .before .before .before .before .if1 in
+    let c-find-limits = c .before .before .before .before .before .before .before .before .find-limits in
+    let c-loop-test = c .before .before .before .before .loop-test in
+    let c-set-cursor-limit = c .before .before .set-cursor-limit in
+    let c-loop = c .before .before .before .before .before .loop in
     let c-loop2 = c .before .loop2 in
     let c-loop2-test = c .loop2-test in
-    limits-again (c-pre .1 .0) _ (c-pre .1 .1) (c-if1 .left) _ _ refl refl _ (c-find-limits .ensures) _ (c-loop-test .taken) _ refl (c-loop .inv) (c-loop2 .inv) (c-loop2-test .left)
+    limits-again (c-pre .1 .0) _ (c-pre .1 .1) (c-if1 .left) _ _ refl refl _ (c-find-limits .ensures) _ (c-loop-test .taken) _ refl _ (c-set-cursor-limit .ensures) (c-loop .inv) (c-loop2 .inv) (c-loop2-test .left)
 
 n-add-parts-of : (t : ℕ) → N.Need-add-parts-of (n-calls t) (n-at t) nested.Post n-Inv2 n-μ2 n-Inv n-μ n-Inv3 n-μ3
 n-add-parts-of t c =
-    let c-pre = c .before .before .before .before .before .before .before .before .before .before .before .before .before .before .before .pre in
-    let c-if1 = c .before .before .before .before .before .before .before .before .before .if1 in
+    let c-pre = c .before .before .before .before .before .before .before .before .before .before .before .before .before .before .before .before .pre in
+    let c-if1 = c .before .before .before .before .before .before .before .before .before .before .if1 in
     let c-loop2-test = c .loop2-test in
     omega (arith, starts-few (c-pre .1 .0) _ (c-pre .1 .1) (c-if1 .left), starts-ordered (c-pre .1 .0) _ (c-pre .1 .1) (c-if1 .left), c-loop2-test .taken)
 
 n-cast-parts-of : (t : ℕ) → N.Need-cast-parts-of (n-calls t) (n-at t) nested.Post n-Inv2 n-μ2 n-Inv n-μ n-Inv3 n-μ3
 n-cast-parts-of t c =
-    let c-pre = c .before .before .before .before .before .before .before .before .before .before .before .before .before .before .before .pre in
-    let c-if1 = c .before .before .before .before .before .before .before .before .before .if1 in
+    let c-pre = c .before .before .before .before .before .before .before .before .before .before .before .before .before .before .before .before .pre in
+    let c-if1 = c .before .before .before .before .before .before .before .before .before .before .if1 in
     let c-loop2-test = c .loop2-test in
     omega (arith, starts-few (c-pre .1 .0) _ (c-pre .1 .1) (c-if1 .left), starts-ordered (c-pre .1 .0) _ (c-pre .1 .1) (c-if1 .left), c-loop2-test .taken)
 
 n-parts-of-requires : (t : ℕ) → N.Need-parts-of-requires (n-calls t) (n-at t) nested.Post n-Inv2 n-μ2 n-Inv n-μ n-Inv3 n-μ3
 n-parts-of-requires t c κs = search needs
 
-n-add-t62 : (t : ℕ) → N.Need-add-t62 (n-calls t) (n-at t) nested.Post n-Inv2 n-μ2 n-Inv n-μ n-Inv3 n-μ3
-n-add-t62 t c =
-    let c-if1 = c .before .before .before .before .before .before .before .before .before .before .if1 in
+n-add-t60 : (t : ℕ) → N.Need-add-t60 (n-calls t) (n-at t) nested.Post n-Inv2 n-μ2 n-Inv n-μ n-Inv3 n-μ3
+n-add-t60 t c =
+    let c-if1 = c .before .before .before .before .before .before .before .before .before .before .before .if1 in
     omega (arith, c-if1 .left)
 
 n-add-rule : (t : ℕ) → N.Need-add-rule (n-calls t) (n-at t) nested.Post n-Inv2 n-μ2 n-Inv n-μ n-Inv3 n-μ3
 n-add-rule t c =
-    let c-pre = c .before .before .before .before .before .before .before .before .before .before .before .before .before .before .before .before .pre in
-    let c-if1 = c .before .before .before .before .before .before .before .before .before .before .if1 in
+    let c-pre = c .before .before .before .before .before .before .before .before .before .before .before .before .before .before .before .before .before .pre in
+    let c-if1 = c .before .before .before .before .before .before .before .before .before .before .before .if1 in
     let c-loop2-test = c .before .loop2-test in
     omega (arith, starts-few (c-pre .1 .0) _ (c-pre .1 .1) (c-if1 .left), c-loop2-test .taken)
 
 n-match-with-rule-requires : (t : ℕ) → N.Need-match-with-rule-requires (n-calls t) (n-at t) nested.Post n-Inv2 n-μ2 n-Inv n-μ n-Inv3 n-μ3
 n-match-with-rule-requires t c κs =
-    let c-pre = c .before .before .before .before .before .before .before .before .before .before .before .before .before .before .before .before .before .pre in
-    let c-if1 = c .before .before .before .before .before .before .before .before .before .before .before .if1 in
-    let c-find-limits = c .before .before .before .before .before .before .before .before .before .find-limits in
-    let c-loop-test = c .before .before .before .before .before .loop-test in
+    let c-pre = c .before .before .before .before .before .before .before .before .before .before .before .before .before .before .before .before .before .before .pre in
+    let c-if1 = c .before .before .before .before .before .before .before .before .before .before .before .before .if1 in
+    let c-find-limits = c .before .before .before .before .before .before .before .before .before .before .find-limits in
+    let c-loop-test = c .before .before .before .before .before .before .loop-test in
+    let c-set-cursor-limit = c .before .before .before .before .set-cursor-limit in
     let c-loop2 = c .before .before .before .loop2 in
-    let c-loop = c .before .before .before .before .before .before .loop in
+    let c-loop = c .before .before .before .before .before .before .before .loop in
     let c-loop2-test = c .before .before .loop2-test in
     let c-parts-of = c .before .parts-of in
-    let (a, b) = limit-within (c-pre .1 .0) _ (c-pre .1 .1) (c-if1 .left) _ _ refl refl _ (c-find-limits .ensures) _ (c-loop-test .taken) _ refl in (
+    let (a, b) = inner-within (c-pre .1 .0) _ (c-pre .1 .1) (c-if1 .left) _ _ refl refl _ (c-find-limits .ensures) _ (c-loop-test .taken) _ refl _ (c-set-cursor-limit .ensures) in (
       omega (arith, c-loop2 .inv .falls, c-loop .inv .falls, c-pre .0),
       rule-ready (c-pre .1 .0) _ (c-pre .1 .1) (c-if1 .left) _ _ refl refl _ (c-loop2-test .taken) _ (c-parts-of .ensures) _ a b _ _ (c-loop2 .inv .stored),
     )
@@ -428,16 +443,17 @@ n-loop2-less t c =
 
 n-loop2-again : (t : ℕ) → N.Need-loop2-again (n-calls t) (n-at t) nested.Post n-Inv2 n-μ2 n-Inv n-μ n-Inv3 n-μ3
 n-loop2-again t c =
-    let c-pre = c .before .before .before .before .before .before .before .before .before .before .before .before .before .before .before .before .before .before .before .before .before .before .before .pre in
-    let c-if1 = c .before .before .before .before .before .before .before .before .before .before .before .before .before .before .before .before .before .if1 in
-    let c-find-limits = c .before .before .before .before .before .before .before .before .before .before .before .before .before .before .before .find-limits in
-    let c-loop-test = c .before .before .before .before .before .before .before .before .before .before .before .loop-test in
+    let c-pre = c .before .before .before .before .before .before .before .before .before .before .before .before .before .before .before .before .before .before .before .before .before .before .before .before .pre in
+    let c-if1 = c .before .before .before .before .before .before .before .before .before .before .before .before .before .before .before .before .before .before .if1 in
+    let c-find-limits = c .before .before .before .before .before .before .before .before .before .before .before .before .before .before .before .before .find-limits in
+    let c-loop-test = c .before .before .before .before .before .before .before .before .before .before .before .before .loop-test in
+    let c-set-cursor-limit = c .before .before .before .before .before .before .before .before .before .before .set-cursor-limit in
     let c-loop2-test = c .before .before .before .before .before .before .before .before .loop2-test in
     let c-parts-of = c .before .before .before .before .before .before .before .parts-of in
     let c-loop2 = c .before .before .before .before .before .before .before .before .before .loop2 in
     let c-match-with-rule = c .before .before .before .before .before .match-with-rule in
     let c-got = c .before .got in
-    let (a, b) = limit-within (c-pre .1 .0) _ (c-pre .1 .1) (c-if1 .left) _ _ refl refl _ (c-find-limits .ensures) _ (c-loop-test .taken) _ refl in
+    let (a, b) = inner-within (c-pre .1 .0) _ (c-pre .1 .1) (c-if1 .left) _ _ refl refl _ (c-find-limits .ensures) _ (c-loop-test .taken) _ refl _ (c-set-cursor-limit .ensures) in
     rules-again (c-pre .1 .0) _ (c-pre .1 .1) (c-if1 .left) _ _ refl refl _ (c-loop2-test .taken) _ (c-parts-of .ensures) _ a b (c-loop2 .inv) refl (c-match-with-rule .ensures) (c-got .given .1)
     (omega (arith, c-match-with-rule .kept, c-loop2 .inv .stored .sized))
 
@@ -448,25 +464,26 @@ n-same-length : (t : ℕ) → N.Need-same-length (n-calls t) (n-at t) nested.Pos
 n-same-length t c =
     let c-match-with-rule = c .before .before .before .before .before .match-with-rule in
     let c-loop2 = c .before .before .before .before .before .before .before .before .before .loop2 in
-    let c-pre = c .before .before .before .before .before .before .before .before .before .before .before .before .before .before .before .before .before .before .before .before .before .before .before .pre in
+    let c-pre = c .before .before .before .before .before .before .before .before .before .before .before .before .before .before .before .before .before .before .before .before .before .before .before .before .pre in
     omega (arith, c-match-with-rule .kept, c-loop2 .inv .stored .sized, c-pre .1 .0 .stored .sized)
 
 n-returns-2 : (t : ℕ) → N.Need-returns-2 (n-calls t) (n-at t) nested.Post n-Inv2 n-μ2 n-Inv n-μ n-Inv3 n-μ3
 n-returns-2 t c =
-    let c-pre = c .before .before .before .before .before .before .before .before .before .before .before .before .before .before .before .before .before .before .before .before .before .before .before .pre in
-    let c-if1 = c .before .before .before .before .before .before .before .before .before .before .before .before .before .before .before .before .before .if1 in
-    let c-find-limits = c .before .before .before .before .before .before .before .before .before .before .before .before .before .before .before .find-limits in
-    let c-loop-test = c .before .before .before .before .before .before .before .before .before .before .before .loop-test in
-    let c-next-useful-index = c .before .before .before .before .before .before .before .before .before .before .before .before .before .before .before .before .next-useful-index in
-    let c-loop = c .before .before .before .before .before .before .before .before .before .before .before .before .loop in
+    let c-pre = c .before .before .before .before .before .before .before .before .before .before .before .before .before .before .before .before .before .before .before .before .before .before .before .before .pre in
+    let c-if1 = c .before .before .before .before .before .before .before .before .before .before .before .before .before .before .before .before .before .before .if1 in
+    let c-find-limits = c .before .before .before .before .before .before .before .before .before .before .before .before .before .before .before .before .find-limits in
+    let c-loop-test = c .before .before .before .before .before .before .before .before .before .before .before .before .loop-test in
+    let c-set-cursor-limit = c .before .before .before .before .before .before .before .before .before .before .set-cursor-limit in
+    let c-next-useful-index = c .before .before .before .before .before .before .before .before .before .before .before .before .before .before .before .before .before .next-useful-index in
+    let c-loop = c .before .before .before .before .before .before .before .before .before .before .before .before .before .loop in
     let c-loop2-test = c .before .before .before .before .before .before .before .before .loop2-test in
     let c-parts-of = c .before .before .before .before .before .before .before .parts-of in
     let c-loop2 = c .before .before .before .before .before .before .before .before .before .loop2 in
     let c-match-with-rule = c .before .before .before .before .before .match-with-rule in
     let c-got2 = c .before .got2 in
-    let (a, b) = limit-within (c-pre .1 .0) _ (c-pre .1 .1) (c-if1 .left) _ _ refl refl _ (c-find-limits .ensures) _ (c-loop-test .taken) _ refl in
+    let (a, b) = inner-within (c-pre .1 .0) _ (c-pre .1 .1) (c-if1 .left) _ _ refl refl _ (c-find-limits .ensures) _ (c-loop-test .taken) _ refl _ (c-set-cursor-limit .ensures) in
     nested-stop (c-pre .1 .0) _ _ (c-pre .1 .1) (c-if1 .left) _ _ refl refl _ (c-next-useful-index .ensures) _ (c-find-limits .ensures) _
-    (limits-stop (c-pre .1 .0) _ (c-pre .1 .1) (c-if1 .left) _ _ refl refl _ (c-find-limits .ensures) _ (c-loop-test .taken) _ refl (c-loop .inv)
+    (limits-stop (c-pre .1 .0) _ (c-pre .1 .1) (c-if1 .left) _ _ refl refl _ (c-find-limits .ensures) _ (c-loop-test .taken) _ refl _ (c-set-cursor-limit .ensures) (c-loop .inv)
     (rules-stop (c-pre .1 .0) _ (c-pre .1 .1) (c-if1 .left) _ _ refl refl _ (c-loop2-test .taken) _ (c-parts-of .ensures) _ a b (c-loop2 .inv) refl (c-match-with-rule .ensures) (c-got2 .given .1)))
 
 n-loop3-holds : (t : ℕ) → N.Need-loop3-holds (n-calls t) (n-at t) nested.Post n-Inv2 n-μ2 n-Inv n-μ n-Inv3 n-μ3
@@ -567,27 +584,31 @@ n-enum-known-room t c = search needs
 n-after-requires : (t : ℕ) → N.Need-after-requires (n-calls t) (n-at t) nested.Post n-Inv2 n-μ2 n-Inv n-μ n-Inv3 n-μ3
 n-after-requires t c κs = search needs
 
+n-set-cursor-index-requires : (t : ℕ) → N.Need-set-cursor-index-requires (n-calls t) (n-at t) nested.Post n-Inv2 n-μ2 n-Inv n-μ n-Inv3 n-μ3
+n-set-cursor-index-requires t c κs = search needs
+
 n-match-with-rule-requires-2 : (t : ℕ) → N.Need-match-with-rule-requires-2 (n-calls t) (n-at t) nested.Post n-Inv2 n-μ2 n-Inv n-μ n-Inv3 n-μ3
 n-match-with-rule-requires-2 t c κs =
-    let c-loop3 = c .before .before .before .before .before .before .before .before .before .before .before .before .before .before .before .before .loop3 in
-    let c-loop = c .before .before .before .before .before .before .before .before .before .before .before .before .before .before .before .before .before .before .loop in
-    let c-pre = c .before .before .before .before .before .before .before .before .before .before .before .before .before .before .before .before .before .before .before .before .before .before .before .before .before .before .before .before .before .pre in
-    let c-if1 = c .before .before .before .before .before .before .before .before .before .before .before .before .before .before .before .before .before .before .before .before .before .before .before .if1 in
-    let c-loop3-test = c .before .before .before .before .before .before .before .before .before .before .before .before .before .before .before .loop3-test in
-    let c-inner-match = c .before .before .before .before .before .before .before .before .before .before .before .before .before .inner-match in
-    let c-found = c .before .before .before .before .before .before .before .before .before .before .before .found in
-    let c-least = c .before .before .before .before .before .before .before .before .before .least in
-    let c-room = c .before .before .before .room in
-    let c-keep = c .before .before .before .before .before .before .before .keep in
-    let c-after = c .before .after in
-    let c-next-useful-index = c .before .before .before .before .before .before .before .before .before .before .before .before .before .before .before .before .before .before .before .before .before .before .next-useful-index in
-    let c-find-limits = c .before .before .before .before .before .before .before .before .before .before .before .before .before .before .before .before .before .before .before .before .before .find-limits in
-    let c-loop-test = c .before .before .before .before .before .before .before .before .before .before .before .before .before .before .before .before .before .loop-test in (
+    let c-loop3 = c .before .before .before .before .before .before .before .before .before .before .before .before .before .before .before .before .before .loop3 in
+    let c-loop = c .before .before .before .before .before .before .before .before .before .before .before .before .before .before .before .before .before .before .before .loop in
+    let c-pre = c .before .before .before .before .before .before .before .before .before .before .before .before .before .before .before .before .before .before .before .before .before .before .before .before .before .before .before .before .before .before .pre in
+    let c-if1 = c .before .before .before .before .before .before .before .before .before .before .before .before .before .before .before .before .before .before .before .before .before .before .before .before .if1 in
+    let c-loop3-test = c .before .before .before .before .before .before .before .before .before .before .before .before .before .before .before .before .loop3-test in
+    let c-inner-match = c .before .before .before .before .before .before .before .before .before .before .before .before .before .before .inner-match in
+    let c-found = c .before .before .before .before .before .before .before .before .before .before .before .before .found in
+    let c-least = c .before .before .before .before .before .before .before .before .before .before .least in
+    let c-room = c .before .before .before .before .room in
+    let c-keep = c .before .before .before .before .before .before .before .before .keep in
+    let c-after = c .before .before .after in
+    let c-next-useful-index = c .before .before .before .before .before .before .before .before .before .before .before .before .before .before .before .before .before .before .before .before .before .before .before .next-useful-index in
+    let c-find-limits = c .before .before .before .before .before .before .before .before .before .before .before .before .before .before .before .before .before .before .before .before .before .before .find-limits in
+    let c-loop-test = c .before .before .before .before .before .before .before .before .before .before .before .before .before .before .before .before .before .before .loop-test in
+    let c-set-cursor-index = c .before .set-cursor-index in (
       omega (arith, c-loop3 .inv .did .falls, c-loop .inv .falls, c-pre .0),
       nest-ready (c-pre .1 .0) (c-if1 .left) _ (c-loop3 .inv) (c-loop3-test .taken) _ (c-inner-match .ensures) _ (c-found .given .1) _ (c-least .ensures) _ _ (rw (c-room .given .1) at (c-keep .ensures .log)) (c-after .ensures)
           (nested-within (c-pre .1 .0) _ _ (c-pre .1 .1) (c-if1 .left) _ _ refl refl _ (c-next-useful-index .ensures) _ (c-find-limits .ensures) (c-loop .inv) (c-loop-test .left)
           (nest-member (c-pre .1 .0) (c-if1 .left) _ (c-loop3 .inv) (c-loop3-test .taken) _ (c-inner-match .ensures) _ (c-found .given .1)))
-          (omega (arith, c-keep .kept, c-loop3 .inv .did .stored .sized)),
+          (omega (arith, c-keep .kept, c-loop3 .inv .did .stored .sized)) (c-set-cursor-index .ensures),
     )
 
 n-enum-known-got-3 : (t : ℕ) → N.Need-enum-known-got-3 (n-calls t) (n-at t) nested.Post n-Inv2 n-μ2 n-Inv n-μ n-Inv3 n-μ3
@@ -595,24 +616,32 @@ n-enum-known-got-3 t c = search needs
 
 n-loop3-less-2 : (t : ℕ) → N.Need-loop3-less-2 (n-calls t) (n-at t) nested.Post n-Inv2 n-μ2 n-Inv n-μ n-Inv3 n-μ3
 n-loop3-less-2 t c =
-    let c-loop3-test = c .before .before .before .before .before .before .before .before .before .before .before .before .before .before .before .before .before .before .before .before .before .loop3-test in
+    let c-loop3-test = c .before .before .before .before .before .before .before .before .before .before .before .before .before .before .before .before .before .before .before .before .before .before .loop3-test in
     omega (arith, c-loop3-test .taken)
 
 n-loop3-again-2 : (t : ℕ) → N.Need-loop3-again-2 (n-calls t) (n-at t) nested.Post n-Inv2 n-μ2 n-Inv n-μ n-Inv3 n-μ3
 n-loop3-again-2 t c =
-    let c-pre = c .before .before .before .before .before .before .before .before .before .before .before .before .before .before .before .before .before .before .before .before .before .before .before .before .before .before .before .before .before .before .before .before .before .before .before .pre in
-    let c-if1 = c .before .before .before .before .before .before .before .before .before .before .before .before .before .before .before .before .before .before .before .before .before .before .before .before .before .before .before .before .before .if1 in
-    let c-loop3 = c .before .before .before .before .before .before .before .before .before .before .before .before .before .before .before .before .before .before .before .before .before .before .loop3 in
-    let c-loop3-test = c .before .before .before .before .before .before .before .before .before .before .before .before .before .before .before .before .before .before .before .before .before .loop3-test in
-    let c-inner-match = c .before .before .before .before .before .before .before .before .before .before .before .before .before .before .before .before .before .before .before .inner-match in
-    let c-found = c .before .before .before .before .before .before .before .before .before .before .before .before .before .before .before .before .before .found in
-    let c-least = c .before .before .before .before .before .before .before .before .before .before .before .before .before .before .before .least in
-    let c-room = c .before .before .before .before .before .before .before .before .before .room in
-    let c-keep = c .before .before .before .before .before .before .before .before .before .before .before .before .before .keep in
-    let c-after = c .before .before .before .before .before .before .before .after in
+    let c-pre = c .before .before .before .before .before .before .before .before .before .before .before .before .before .before .before .before .before .before .before .before .before .before .before .before .before .before .before .before .before .before .before .before .before .before .before .before .pre in
+    let c-if1 = c .before .before .before .before .before .before .before .before .before .before .before .before .before .before .before .before .before .before .before .before .before .before .before .before .before .before .before .before .before .before .if1 in
+    let c-loop3 = c .before .before .before .before .before .before .before .before .before .before .before .before .before .before .before .before .before .before .before .before .before .before .before .loop3 in
+    let c-loop3-test = c .before .before .before .before .before .before .before .before .before .before .before .before .before .before .before .before .before .before .before .before .before .before .loop3-test in
+    let c-inner-match = c .before .before .before .before .before .before .before .before .before .before .before .before .before .before .before .before .before .before .before .before .inner-match in
+    let c-found = c .before .before .before .before .before .before .before .before .before .before .before .before .before .before .before .before .before .before .found in
+    let c-least = c .before .before .before .before .before .before .before .before .before .before .before .before .before .before .before .before .least in
+    let c-room = c .before .before .before .before .before .before .before .before .before .before .room in
+    let c-keep = c .before .before .before .before .before .before .before .before .before .before .before .before .before .before .keep in
+    let c-after = c .before .before .before .before .before .before .before .before .after in
+    let c-next-useful-index = c .before .before .before .before .before .before .before .before .before .before .before .before .before .before .before .before .before .before .before .before .before .before .before .before .before .before .before .before .before .next-useful-index in
+    let c-find-limits = c .before .before .before .before .before .before .before .before .before .before .before .before .before .before .before .before .before .before .before .before .before .before .before .before .before .before .before .before .find-limits in
+    let c-loop = c .before .before .before .before .before .before .before .before .before .before .before .before .before .before .before .before .before .before .before .before .before .before .before .before .before .loop in
+    let c-loop-test = c .before .before .before .before .before .before .before .before .before .before .before .before .before .before .before .before .before .before .before .before .before .before .before .before .loop-test in
+    let c-set-cursor-index = c .before .before .before .before .before .before .before .set-cursor-index in
     let c-match-with-rule2 = c .before .before .before .before .before .match-with-rule2 in
     let c-got3 = c .before .got3 in
-    nest-again (c-pre .1 .0) (c-if1 .left) _ (c-loop3 .inv) (c-loop3-test .taken) _ (c-inner-match .ensures) _ (c-found .given .1) _ (c-least .ensures) _ _ (rw (c-room .given .1) at (c-keep .ensures .log)) (c-after .ensures) (c-match-with-rule2 .ensures) (c-got3 .given .1)
+    nest-again (c-pre .1 .0) (c-if1 .left) _ (c-loop3 .inv) (c-loop3-test .taken) _ (c-inner-match .ensures) _ (c-found .given .1) _ (c-least .ensures) _ _ (rw (c-room .given .1) at (c-keep .ensures .log)) (c-after .ensures)
+    (nested-within (c-pre .1 .0) _ _ (c-pre .1 .1) (c-if1 .left) _ _ refl refl _ (c-next-useful-index .ensures) _ (c-find-limits .ensures) (c-loop .inv) (c-loop-test .left)
+    (nest-member (c-pre .1 .0) (c-if1 .left) _ (c-loop3 .inv) (c-loop3-test .taken) _ (c-inner-match .ensures) _ (c-found .given .1)))
+    (c-set-cursor-index .ensures) (c-match-with-rule2 .ensures) (c-got3 .given .1)
     (omega (arith, c-match-with-rule2 .kept, c-keep .kept, c-loop3 .inv .did .stored .sized))
 
 n-enum-known-got-4 : (t : ℕ) → N.Need-enum-known-got-4 (n-calls t) (n-at t) nested.Post n-Inv2 n-μ2 n-Inv n-μ n-Inv3 n-μ3
@@ -621,31 +650,35 @@ n-enum-known-got-4 t c = search needs
 n-same-length-3 : (t : ℕ) → N.Need-same-length-3 (n-calls t) (n-at t) nested.Post n-Inv2 n-μ2 n-Inv n-μ n-Inv3 n-μ3
 n-same-length-3 t c =
     let c-match-with-rule2 = c .before .before .before .before .before .match-with-rule2 in
-    let c-keep = c .before .before .before .before .before .before .before .before .before .before .before .before .before .keep in
-    let c-loop3 = c .before .before .before .before .before .before .before .before .before .before .before .before .before .before .before .before .before .before .before .before .before .before .loop3 in
-    let c-pre = c .before .before .before .before .before .before .before .before .before .before .before .before .before .before .before .before .before .before .before .before .before .before .before .before .before .before .before .before .before .before .before .before .before .before .before .pre in
+    let c-keep = c .before .before .before .before .before .before .before .before .before .before .before .before .before .before .keep in
+    let c-loop3 = c .before .before .before .before .before .before .before .before .before .before .before .before .before .before .before .before .before .before .before .before .before .before .before .loop3 in
+    let c-pre = c .before .before .before .before .before .before .before .before .before .before .before .before .before .before .before .before .before .before .before .before .before .before .before .before .before .before .before .before .before .before .before .before .before .before .before .before .pre in
     omega (arith, c-match-with-rule2 .kept, c-keep .kept, c-loop3 .inv .did .stored .sized, c-pre .1 .0 .stored .sized)
 
 n-returns-4 : (t : ℕ) → N.Need-returns-4 (n-calls t) (n-at t) nested.Post n-Inv2 n-μ2 n-Inv n-μ n-Inv3 n-μ3
 n-returns-4 t c =
-    let c-pre = c .before .before .before .before .before .before .before .before .before .before .before .before .before .before .before .before .before .before .before .before .before .before .before .before .before .before .before .before .before .before .before .before .before .before .before .pre in
-    let c-if1 = c .before .before .before .before .before .before .before .before .before .before .before .before .before .before .before .before .before .before .before .before .before .before .before .before .before .before .before .before .before .if1 in
-    let c-next-useful-index = c .before .before .before .before .before .before .before .before .before .before .before .before .before .before .before .before .before .before .before .before .before .before .before .before .before .before .before .before .next-useful-index in
-    let c-find-limits = c .before .before .before .before .before .before .before .before .before .before .before .before .before .before .before .before .before .before .before .before .before .before .before .before .before .before .before .find-limits in
-    let c-loop = c .before .before .before .before .before .before .before .before .before .before .before .before .before .before .before .before .before .before .before .before .before .before .before .before .loop in
-    let c-loop-test = c .before .before .before .before .before .before .before .before .before .before .before .before .before .before .before .before .before .before .before .before .before .before .before .loop-test in
-    let c-loop3 = c .before .before .before .before .before .before .before .before .before .before .before .before .before .before .before .before .before .before .before .before .before .before .loop3 in
-    let c-loop3-test = c .before .before .before .before .before .before .before .before .before .before .before .before .before .before .before .before .before .before .before .before .before .loop3-test in
-    let c-inner-match = c .before .before .before .before .before .before .before .before .before .before .before .before .before .before .before .before .before .before .before .inner-match in
-    let c-found = c .before .before .before .before .before .before .before .before .before .before .before .before .before .before .before .before .before .found in
-    let c-least = c .before .before .before .before .before .before .before .before .before .before .before .before .before .before .before .least in
-    let c-room = c .before .before .before .before .before .before .before .before .before .room in
-    let c-keep = c .before .before .before .before .before .before .before .before .before .before .before .before .before .keep in
-    let c-after = c .before .before .before .before .before .before .before .after in
+    let c-pre = c .before .before .before .before .before .before .before .before .before .before .before .before .before .before .before .before .before .before .before .before .before .before .before .before .before .before .before .before .before .before .before .before .before .before .before .before .pre in
+    let c-if1 = c .before .before .before .before .before .before .before .before .before .before .before .before .before .before .before .before .before .before .before .before .before .before .before .before .before .before .before .before .before .before .if1 in
+    let c-next-useful-index = c .before .before .before .before .before .before .before .before .before .before .before .before .before .before .before .before .before .before .before .before .before .before .before .before .before .before .before .before .before .next-useful-index in
+    let c-find-limits = c .before .before .before .before .before .before .before .before .before .before .before .before .before .before .before .before .before .before .before .before .before .before .before .before .before .before .before .before .find-limits in
+    let c-loop = c .before .before .before .before .before .before .before .before .before .before .before .before .before .before .before .before .before .before .before .before .before .before .before .before .before .loop in
+    let c-loop-test = c .before .before .before .before .before .before .before .before .before .before .before .before .before .before .before .before .before .before .before .before .before .before .before .before .loop-test in
+    let c-loop3 = c .before .before .before .before .before .before .before .before .before .before .before .before .before .before .before .before .before .before .before .before .before .before .before .loop3 in
+    let c-loop3-test = c .before .before .before .before .before .before .before .before .before .before .before .before .before .before .before .before .before .before .before .before .before .before .loop3-test in
+    let c-inner-match = c .before .before .before .before .before .before .before .before .before .before .before .before .before .before .before .before .before .before .before .before .inner-match in
+    let c-found = c .before .before .before .before .before .before .before .before .before .before .before .before .before .before .before .before .before .before .found in
+    let c-least = c .before .before .before .before .before .before .before .before .before .before .before .before .before .before .before .before .least in
+    let c-room = c .before .before .before .before .before .before .before .before .before .before .room in
+    let c-keep = c .before .before .before .before .before .before .before .before .before .before .before .before .before .before .keep in
+    let c-after = c .before .before .before .before .before .before .before .before .after in
+    let c-set-cursor-index = c .before .before .before .before .before .before .before .set-cursor-index in
     let c-match-with-rule2 = c .before .before .before .before .before .match-with-rule2 in
     let c-got4 = c .before .got4 in
     nested-halt (c-pre .1 .0) _ _ (c-pre .1 .1) (c-if1 .left) _ _ refl refl _ (c-next-useful-index .ensures) _ (c-find-limits .ensures) (c-loop .inv) (c-loop-test .left) _
-    (nest-halt (c-pre .1 .0) (c-if1 .left) _ (c-loop3 .inv) (c-loop3-test .taken) _ (c-inner-match .ensures) _ (c-found .given .1) _ (c-least .ensures) _ _ (rw (c-room .given .1) at (c-keep .ensures .log)) (c-after .ensures) (c-match-with-rule2 .ensures) (c-got4 .given .1))
+    (nest-halt (c-pre .1 .0) (c-if1 .left) _ (c-loop3 .inv) (c-loop3-test .taken) _ (c-inner-match .ensures) _ (c-found .given .1) _ (c-least .ensures) _ _ (rw (c-room .given .1) at (c-keep .ensures .log)) (c-after .ensures)
+    (nested-within (c-pre .1 .0) _ _ (c-pre .1 .1) (c-if1 .left) _ _ refl refl _ (c-next-useful-index .ensures) _ (c-find-limits .ensures) (c-loop .inv) (c-loop-test .left)
+    (nest-member (c-pre .1 .0) (c-if1 .left) _ (c-loop3 .inv) (c-loop3-test .taken) _ (c-inner-match .ensures) _ (c-found .given .1)))
+    (c-set-cursor-index .ensures) (c-match-with-rule2 .ensures) (c-got4 .given .1))
 
 n-same-length-4 : (t : ℕ) → N.Need-same-length-4 (n-calls t) (n-at t) nested.Post n-Inv2 n-μ2 n-Inv n-μ n-Inv3 n-μ3
 n-same-length-4 t c =
@@ -689,7 +722,7 @@ r-finish-requires : (t : ℕ) → R.Need-finish-requires (r-calls t) (r-at t) ru
 r-finish-requires t c κs =
     let c-pre = c .before .before .before .before .before .before .before .before .before .pre in
     let c-loop = c .before .before .before .loop in
-    (along-stored (c-pre .1) _ (c-loop .inv), (c-pre .1 .sets, (c-pre .1 .rules, (c-pre .1 .depth, (c-pre .1 .last, omega (arith, c-loop .inv .inside, c-pre .1 .limit, c-pre .1 .short))))))
+    (along-stored (c-pre .1) _ (c-loop .inv), (c-pre .1 .sets, (c-pre .1 .rules, (c-pre .1 .depth, (c-pre .1 .last, (omega (arith, c-loop .inv .inside, c-pre .1 .limit, c-pre .1 .short), (omega (arith, c-loop .inv .inside, c-loop .inv .under), λ z. c-loop .inv .under ∙ c-pre .1 .top z)))))))
 
 r-same-length-2 : (t : ℕ) → R.Need-same-length-2 (r-calls t) (r-at t) rule.Post r-Inv r-μ
 r-same-length-2 t c =
@@ -883,8 +916,8 @@ pub +match-with-expr+match-with-nested-ruledef+match-with-rule-spec : {M : Type 
 +match-with-expr+match-with-nested-ruledef+match-with-rule-spec =
     close μ-e μ-n μ-r
     (λ t. E.spec (e-calls t) (e-at t) expr.Post e-Inv e-μ
-    (e-next-useful-index-requires t) (e-find-ends-requires t) (e-loop-holds t) (e-mul-end t) (e-element-copy-out-end t) (e-add-i t) (e-least-requires t) (e-keep-requires t) (e-enum-told t) (e-same-length t) (e-returns t) (e-enum-known-room t) (e-after-requires t) (e-match-with-rule-requires t) (e-enum-known-got t) (e-loop-less t) (e-loop-again t) (e-enum-known-got-2 t) (e-same-length-2 t) (e-returns-2 t) (e-same-length-3 t) (e-returns-3 t))
+    (e-next-useful-index-requires t) (e-find-ends-requires t) (e-loop-holds t) (e-mul-end t) (e-element-copy-out-end t) (e-add-i t) (e-least-requires t) (e-keep-requires t) (e-enum-told t) (e-same-length t) (e-returns t) (e-enum-known-room t) (e-after-requires t) (e-set-cursor-index-requires t) (e-match-with-rule-requires t) (e-enum-known-got t) (e-loop-less t) (e-loop-again t) (e-enum-known-got-2 t) (e-same-length-2 t) (e-returns-2 t) (e-same-length-3 t) (e-returns-3 t))
     (λ t. N.spec (n-calls t) (n-at t) nested.Post n-Inv2 n-μ2 n-Inv n-μ n-Inv3 n-μ3
-    (n-returns t) (n-next-useful-index-requires t) (n-find-limits-requires t) (n-mul-begin t) (n-shared-slice-read-begin t) (n-cast-begin t) (n-add-count t) (n-mul-count t) (n-shared-slice-read-count t) (n-cast-count t) (n-sub-count t) (n-loop-holds t) (n-mul-t56 t) (n-element-copy-out-t60 t) (n-add-pass t) (n-loop2-holds t) (n-loop-less t) (n-loop-again t) (n-add-parts-of t) (n-cast-parts-of t) (n-parts-of-requires t) (n-add-t62 t) (n-add-rule t) (n-match-with-rule-requires t) (n-enum-known-got t) (n-loop2-less t) (n-loop2-again t) (n-enum-known-got-2 t) (n-same-length t) (n-returns-2 t) (n-loop3-holds t) (n-add-m t) (n-add-inner-match t) (n-inner-match-requires t) (n-enum-told t) (n-loop3-less t) (n-loop3-again t) (n-enum-known-found t) (n-least-requires t) (n-keep-requires t) (n-enum-told-2 t) (n-same-length-2 t) (n-returns-3 t) (n-enum-known-room t) (n-after-requires t) (n-match-with-rule-requires-2 t) (n-enum-known-got-3 t) (n-loop3-less-2 t) (n-loop3-again-2 t) (n-enum-known-got-4 t) (n-same-length-3 t) (n-returns-4 t) (n-same-length-4 t) (n-returns-5 t))
+    (n-returns t) (n-next-useful-index-requires t) (n-find-limits-requires t) (n-mul-begin t) (n-shared-slice-read-begin t) (n-cast-begin t) (n-add-count t) (n-mul-count t) (n-shared-slice-read-count t) (n-cast-count t) (n-sub-count t) (n-loop-holds t) (n-mul-set-cursor-limit t) (n-element-copy-out-set-cursor-limit t) (n-set-cursor-limit-requires t) (n-add-pass t) (n-loop2-holds t) (n-loop-less t) (n-loop-again t) (n-add-parts-of t) (n-cast-parts-of t) (n-parts-of-requires t) (n-add-t60 t) (n-add-rule t) (n-match-with-rule-requires t) (n-enum-known-got t) (n-loop2-less t) (n-loop2-again t) (n-enum-known-got-2 t) (n-same-length t) (n-returns-2 t) (n-loop3-holds t) (n-add-m t) (n-add-inner-match t) (n-inner-match-requires t) (n-enum-told t) (n-loop3-less t) (n-loop3-again t) (n-enum-known-found t) (n-least-requires t) (n-keep-requires t) (n-enum-told-2 t) (n-same-length-2 t) (n-returns-3 t) (n-enum-known-room t) (n-after-requires t) (n-set-cursor-index-requires t) (n-match-with-rule-requires-2 t) (n-enum-known-got-3 t) (n-loop3-less-2 t) (n-loop3-again-2 t) (n-enum-known-got-4 t) (n-same-length-3 t) (n-returns-4 t) (n-same-length-4 t) (n-returns-5 t))
     (λ t. R.spec (r-calls t) (r-at t) rule.Post r-Inv r-μ
     (r-loop-holds t) (r-same-length t) (r-returns t) (r-sub-left t) (r-finish-requires t) (r-same-length-2 t) (r-returns-2 t) (r-part-at-requires t) (r-add-at t) (r-enum-known-part t) (r-maybe-expect-char-requires t) (r-enum-known-step t) (r-loop-less t) (r-loop-again t) (r-enum-told t) (r-same-length-3 t) (r-returns-3 t) (r-enum-told-2 t) (r-maybe-expect-whitespace-requires t) (r-enum-known-step-2 t) (r-loop-less-2 t) (r-loop-again-2 t) (r-enum-told-3 t) (r-same-length-4 t) (r-returns-4 t) (r-enum-told-4 t) (r-past-requires t) (r-match-with-expr-requires t) (r-same-length-5 t) (r-returns-5 t) (r-enum-known-part-2 t) (r-past-requires-2 t) (r-match-with-nested-ruledef-requires t) (r-same-length-6 t) (r-returns-6 t))
