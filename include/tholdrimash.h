@@ -1,4 +1,5 @@
 /* The matching core of customasm, with a proof of every function. Link libtholdrimash.a (`rt staticlib tholdrimash`).
+ * docs/MANUAL.md has all of it at length: every term below, a worked example of each step, and what to do about each number.
  *
  * Every function takes any memory that its pointers and lengths describe (a length counts items, not bytes), ends, and
  * refuses bad input by a number; fields that a number does not name are 0. A refusal leaves what was lent unchanged, except
@@ -13,23 +14,47 @@
 #include <stddef.h>
 #include <stdint.h>
 
+/* The version of this interface, and of the crate in rust/. */
+#define THOLDRIMASH_VERSION "0.1.0"
+#define THOLDRIMASH_VERSION_MAJOR 0
+#define THOLDRIMASH_VERSION_MINOR 1
+#define THOLDRIMASH_VERSION_PATCH 0
+
 #ifdef __cplusplus
 extern "C" {
 #endif
 
-/* What matching returns. Table, line, sheet and budget are judged in that order (2, 3, 4, 5); then whichever of 6, 7 and 8
- * the walk meets first; then 1; then 9.
+/* The numbers that the field `number` holds: of matching 0 to 9, of selection 0 and 10 to 14. Beside each stand the fields
+ * that it returns.
  *
- *   0  matched                      visits; words: how many were written at the answer's start, the rest is unchanged
- *   1  no match                     visits
- *   2  bad table
- *   3  bad line                     place: 120 if too long, else the first bad byte, else the last byte (whitespace)
- *   4  bad sheet
- *   5  bad budget
- *   6  the next visit would exceed the budget    visits: the budget
- *   7  a nested step would enter depth 17        visits so far
- *   8  a 4,097th record is due                   visits so far
- *   9  the answer is longer than the buffer      visits; words: how many it needs
+ * Matching judges table, line, sheet and budget in that order (2, 3, 4, 5); then comes whichever of 6, 7 and 8 the walk
+ * meets first; then 1; then 9. Selection judges 10, 11, 12, 13, 14 in that order.
+ */
+enum {
+    THOLDRIMASH_MATCHED = 0,        /* visits; words: how many were written at the answer's start, the rest is unchanged */
+    THOLDRIMASH_NO_MATCH = 1,       /* visits */
+    THOLDRIMASH_BAD_TABLE = 2,
+    THOLDRIMASH_BAD_LINE = 3,       /* place: 120 if too long, else the first bad byte, else the last byte (whitespace) */
+    THOLDRIMASH_BAD_SHEET = 4,
+    THOLDRIMASH_BAD_BUDGET = 5,
+    THOLDRIMASH_SPENT = 6,          /* the next visit would exceed the budget; visits: the budget */
+    THOLDRIMASH_TOO_DEEP = 7,       /* a nested step would enter depth 17, mostly by left recursion; visits so far */
+    THOLDRIMASH_POOL_FULL = 8,      /* a 4,097th record is due; visits so far */
+    THOLDRIMASH_TOO_LONG = 9,       /* the answer is longer than the buffer; visits; words: how many it needs */
+
+    THOLDRIMASH_CHOSEN = 0,         /* count: how many indices were written at the start of `chosen`, the rest is unchanged */
+    THOLDRIMASH_BAD_LIST = 10,
+    THOLDRIMASH_NONE_RESOLVED = 11, /* every outcome is unresolved or a failed constraint, or there is none */
+    THOLDRIMASH_NONE_KNOWN = 12,    /* some outcome is resolved, but none has a size */
+    THOLDRIMASH_TIED = 13,          /* two or more have the least size, on the last pass; count: how many */
+    THOLDRIMASH_NO_ROOM = 14        /* the choice is longer than its buffer; count: how many are chosen */
+};
+
+/* What matching returns.
+ *
+ * A visit is an arrival at a place in a rule's pattern: at each part that the walk comes to, and at the pattern's end. A
+ * record is taken for each argument that the walk goes on with and for each match that it completes, and none is given back
+ * before the call ends; a call has 4,096. Depth is 0 for a top rule and one more for each rule that it stands in.
  */
 typedef struct {
     uint32_t number;
@@ -38,15 +63,7 @@ typedef struct {
     uint32_t place;
 } tholdrimash_answer;
 
-/* What selection returns: 10, 11, 12, 13 and 14 are judged in that order.
- *
- *   0   chosen                      count: how many indices were written at the start of `chosen`, the rest is unchanged
- *   10  bad outcome list
- *   11  none resolved
- *   12  none known
- *   13  tie on the last pass        count: how many are tied
- *   14  the choice is longer than its buffer     count: how many are chosen
- */
+/* What selection returns. */
 typedef struct {
     uint32_t number;
     uint32_t count;
@@ -57,11 +74,17 @@ typedef struct {
  * table   16-bit words: S (1 to 32), R (0 to 512), P (0 to 8,192); S flags (0 top ruleset, 1 nested only); R records of
  *         ruleset, first part, part count, in nondecreasing ruleset order, at most 64 parts and 8 parameters each, the
  *         part counts P together at most; P part words: 33 to 126 except 59 (that byte, case ignored), 256 (whitespace),
- *         257 (expression), 512 + r (a rule of ruleset r). Expressions and nested rules are a rule's parameters.
+ *         257 (expression), 512 + r (a rule of ruleset r). Expressions and nested rules are a rule's parameters. A rule's
+ *         number counts from 0 within its ruleset, not within the table.
  * line    0 to 120 bytes, each 9, 32 or 33 to 126 except 59; the last is no whitespace.
- * sheet   2(n+1)^2 bytes for a line of n: where a free parse from c under limit l ends, at c(n+1)+l, then where a greedy
- *         decimal parse ends; 255 for none, else from c to l. Entries with c above l may hold anything.
- * budget  1 to 1,000,000 visits.
+ * sheet   2(n+1)^2 bytes for a line of n: the free ends, free(c, l) at c(n+1)+l, then in the same order the greedy decimal
+ *         ends. 255 for none, else from c to l. Entries with c above l may hold anything.
+ *         free(c, l) is where your expression parser ends if it begins at c and the line stops at l. greedy(c, l) is where
+ *         the longest run of decimal digits from c ends, over whitespace before it, if there is a digit.
+ *         BEWARE: c is the cursor, and it often stands on the whitespace before an expression: for `mov p` the sheet is
+ *         asked for free(3, 5), not free(4, 5). Parse from every c, over leading whitespace; a sheet that knows only the
+ *         first bytes of expressions passes every check and gives 1 for good lines.
+ * budget  1 to 1,000,000 visits. It bounds the time of a call, and changes no answer but to 6: take 1,000,000 if unsure.
  * answer  number of matches, greatest exact count, then each tree: ruleset, rule, argument count; per argument 0
  *         (expression) or 1 (nested), start, end, and the inner tree if nested.
  */
@@ -79,8 +102,9 @@ tholdrimash_answer tholdrimash_lookup(const uint16_t *table, size_t table_len, c
 /* The outcomes of least known size, by index, ascending.
  *
  * outcomes   up to 4,096 words: guess + 2 * kind + 8 * size. Kinds: 0 unresolved (the word is 0), 1 failed constraint,
- *            2 resolved but unknown, 3 sized; the size is 0 to 65,535, and 0 unless sized. On 0 and 13, if any outcome is a
- *            guess (an unresolved one is), every word of kind 1 to 3 gets its guess bit.
+ *            2 resolved but unknown, 3 sized; the size is 0 to 65,535, and 0 unless sized. Kinds 2 and 3 are resolved; kind
+ *            3 is known. On 0 and 13, if any outcome is a guess (an unresolved one is), every word of kind 1 to 3 gets its
+ *            guess bit.
  * last_pass  0 while guessing is allowed, else the last pass, on which two or more of least size are 13.
  * chosen     room for the indices of the outcomes chosen, from 0.
  */

@@ -1,6 +1,6 @@
-/* Calls every function that include/tholdrimash.h declares: bench cases 1, 2, 10, 11 and 12 of document 01, and each
- * number from 0 to 14. After a call it looks at all that was lent and at what stands around it. It writes one line, and
- * ends with 1 if a check failed.
+/* Calls every function that include/tholdrimash.h declares: bench cases 1, 2, 10, 11 and 12 of document 01, each number
+ * from 0 to 14 by its name, and the examples of docs/MANUAL.md in its order and notation. After a call it looks at all
+ * that was lent and at what stands around it. It writes one line, and ends with 1 if a check failed.
  */
 #include "tholdrimash.h"
 
@@ -71,7 +71,7 @@ typedef struct {
 
 /* One call gives these fields, and on number 0 these words. */
 static void gives(const char *name, matching *run, call c, tholdrimash_answer expected, const uint16_t *words) {
-    size_t line_len = strlen(c.line), written = expected.number == 0 ? expected.words : 0;
+    size_t line_len = strlen(c.line), written = expected.number == THOLDRIMASH_MATCHED ? expected.words : 0;
     lent table = lend(c.table, c.table_len * sizeof *c.table), line = lend(c.line, line_len),
          sheet = lend(c.sheet, c.sheet_len), answer = lend(NULL, c.room * sizeof *words);
 
@@ -101,7 +101,7 @@ static void refused(const char *name, call c, tholdrimash_answer expected) { bot
 /* A selection gives these fields, on number 0 these indices, and leaves these outcomes. */
 static void selects(const char *name, const uint32_t *outcomes, size_t len, uint32_t last_pass, size_t room,
                     tholdrimash_selection expected, const uint16_t *indices, const uint32_t *after) {
-    size_t written = expected.number == 0 ? expected.count : 0;
+    size_t written = expected.number == THOLDRIMASH_CHOSEN ? expected.count : 0;
     lent words = lend(outcomes, len * sizeof *outcomes), chosen = lend(NULL, room * sizeof *indices);
 
     tholdrimash_selection told = tholdrimash_select(at(words), len, last_pass, at(chosen), room);
@@ -125,45 +125,48 @@ static void on_t(void) {
     memset(sheet, 255, sizeof sheet);
     sheet[3 * 6 + 5] = 5;
     const call good = {t, LEN(t), "mov p", sheet, sizeof sheet, ALL, LEN(whole) + 1};
-    const tholdrimash_answer matched = {.number = 0, .visits = 15, .words = LEN(whole)};
+    const tholdrimash_answer matched = {.number = THOLDRIMASH_MATCHED, .visits = 15, .words = LEN(whole)};
 
     call c = good;
     both("bench 1", c, matched, whole);
     c.budget = 14;
-    refused("bench 2, budget 14", c, (tholdrimash_answer){.number = 6, .visits = 14});
+    refused("bench 2, budget 14", c, (tholdrimash_answer){.number = THOLDRIMASH_SPENT, .visits = 14});
     c.budget = 15;
     both("bench 2, budget 15", c, matched, whole);
 
     c = good;
     c.table_len--;
-    refused("a table one word short", c, (tholdrimash_answer){.number = 2});
+    refused("a table one word short", c, (tholdrimash_answer){.number = THOLDRIMASH_BAD_TABLE});
     c = good;
     c.line = "mov;p";
-    refused("a semicolon", c, (tholdrimash_answer){.number = 3, .place = 3});
+    refused("a semicolon", c, (tholdrimash_answer){.number = THOLDRIMASH_BAD_LINE, .place = 3});
     c.line = "mov ";
-    refused("a line that ends in a space", c, (tholdrimash_answer){.number = 3, .place = 3});
+    refused("a line that ends in a space", c, (tholdrimash_answer){.number = THOLDRIMASH_BAD_LINE, .place = 3});
     c = good;
     c.sheet_len--;
-    refused("a sheet one byte short", c, (tholdrimash_answer){.number = 4});
+    refused("a sheet one byte short", c, (tholdrimash_answer){.number = THOLDRIMASH_BAD_SHEET});
     c = good;
     c.budget = 0;
-    refused("budget 0", c, (tholdrimash_answer){.number = 5});
+    refused("budget 0", c, (tholdrimash_answer){.number = THOLDRIMASH_BAD_BUDGET});
     c.budget = ALL + 1;
-    refused("budget 1,000,001", c, (tholdrimash_answer){.number = 5});
+    refused("budget 1,000,001", c, (tholdrimash_answer){.number = THOLDRIMASH_BAD_BUDGET});
 
     c = good;
     c.room = LEN(whole);
     both("a buffer exactly full", c, matched, whole);
     c.room--;
-    refused("a buffer one word short", c, (tholdrimash_answer){.number = 9, .visits = 15, .words = LEN(whole)});
+    refused("a buffer one word short", c,
+            (tholdrimash_answer){.number = THOLDRIMASH_TOO_LONG, .visits = 15, .words = LEN(whole)});
     c.room = 0;
-    refused("no buffer", c, (tholdrimash_answer){.number = 9, .visits = 15, .words = LEN(whole)});
+    refused("no buffer", c, (tholdrimash_answer){.number = THOLDRIMASH_TOO_LONG, .visits = 15, .words = LEN(whole)});
 
     /* Lookup tries no rule. */
     c = good;
     c.line = "nop p";
-    gives("no match, scan", tholdrimash_match, c, (tholdrimash_answer){.number = 1, .visits = 2}, NULL);
-    gives("no match, lookup", tholdrimash_lookup, c, (tholdrimash_answer){.number = 1, .visits = 0}, NULL);
+    gives("no match, scan", tholdrimash_match, c, (tholdrimash_answer){.number = THOLDRIMASH_NO_MATCH, .visits = 2},
+          NULL);
+    gives("no match, lookup", tholdrimash_lookup, c, (tholdrimash_answer){.number = THOLDRIMASH_NO_MATCH, .visits = 0},
+          NULL);
 }
 
 /* Tables that an empty line is enough for. */
@@ -176,13 +179,13 @@ static void on_empty_line(void) {
                                     0, 0, 1, 0, 0, 513, 513, 513, 513, 513, 513, 513};
 
     call c = {no_parts, LEN(no_parts), "", sheet, sizeof sheet, ALL, LEN(empty) + 1};
-    both("bench 10", c, (tholdrimash_answer){.number = 0, .visits = 1, .words = LEN(empty)}, empty);
+    both("bench 10", c, (tholdrimash_answer){.number = THOLDRIMASH_MATCHED, .visits = 1, .words = LEN(empty)}, empty);
     c.table = itself;
     c.table_len = LEN(itself);
-    refused("a ruleset that begins with itself", c, (tholdrimash_answer){.number = 7, .visits = 17});
+    refused("a ruleset that begins with itself", c, (tholdrimash_answer){.number = THOLDRIMASH_TOO_DEEP, .visits = 17});
     c.table = many;
     c.table_len = LEN(many);
-    refused("more records than the pool has", c, (tholdrimash_answer){.number = 8, .visits = 3077});
+    refused("more records than the pool has", c, (tholdrimash_answer){.number = THOLDRIMASH_POOL_FULL, .visits = 3077});
 }
 
 /* Any last_pass but 0 is the last pass. */
@@ -191,23 +194,27 @@ static const uint32_t last_passes[] = {1, 2, UINT32_MAX};
 static void ties(void) {
     static const uint32_t sizes[] = {134, 70, 70}, guessed[] = {3, 70, 70}, marked[] = {3, 71, 71};
     static const uint16_t tied[] = {1, 2};
-    const tholdrimash_selection tie = {.number = 13, .count = 2};
+    const tholdrimash_selection tie = {.number = THOLDRIMASH_TIED, .count = 2};
 
-    selects("bench 12, guessing pass", sizes, 3, 0, 3, (tholdrimash_selection){.number = 0, .count = 2}, tied, sizes);
+    selects("bench 12, guessing pass", sizes, 3, 0, 3,
+            (tholdrimash_selection){.number = THOLDRIMASH_CHOSEN, .count = 2}, tied, sizes);
     for (size_t i = 0; i < LEN(last_passes); i++) {
         selects("bench 12, last pass", sizes, 3, last_passes[i], 3, tie, NULL, sizes);
         selects("a tie still marks", guessed, 3, last_passes[i], 0, tie, NULL, marked);
     }
-    selects("a buffer one short", guessed, 3, 0, 1, (tholdrimash_selection){.number = 14, .count = 2}, NULL, guessed);
+    selects("a buffer one short", guessed, 3, 0, 1, (tholdrimash_selection){.number = THOLDRIMASH_NO_ROOM, .count = 2},
+            NULL, guessed);
 }
 
 static void choices(void) {
     static const uint32_t outcomes[] = {134, 71}, marked[] = {135, 71};
     static const uint16_t second[] = {1};
     static const uint32_t guess[] = {1}, constraint[] = {2}, unknown[] = {4}, large[] = {524294};
-    const tholdrimash_selection chosen = {.number = 0, .count = 1}, bad_list = {.number = 10},
-                                none_resolved = {.number = 11}, none_known = {.number = 12},
-                                no_room = {.number = 14, .count = 1};
+    const tholdrimash_selection chosen = {.number = THOLDRIMASH_CHOSEN, .count = 1},
+                                bad_list = {.number = THOLDRIMASH_BAD_LIST},
+                                none_resolved = {.number = THOLDRIMASH_NONE_RESOLVED},
+                                none_known = {.number = THOLDRIMASH_NONE_KNOWN},
+                                no_room = {.number = THOLDRIMASH_NO_ROOM, .count = 1};
 
     for (uint32_t last_pass = 0; last_pass < 2; last_pass++) {
         selects("bench 11", outcomes, 2, last_pass, 3, chosen, second, marked);
@@ -220,11 +227,303 @@ static void choices(void) {
     }
 }
 
+/* The names stand for the numbers, and the version's parts for the version. */
+static void names(void) {
+    static const uint32_t matching[] = {THOLDRIMASH_MATCHED,  THOLDRIMASH_NO_MATCH,  THOLDRIMASH_BAD_TABLE,
+                                        THOLDRIMASH_BAD_LINE, THOLDRIMASH_BAD_SHEET, THOLDRIMASH_BAD_BUDGET,
+                                        THOLDRIMASH_SPENT,    THOLDRIMASH_TOO_DEEP,  THOLDRIMASH_POOL_FULL,
+                                        THOLDRIMASH_TOO_LONG};
+    static const uint32_t selection[] = {THOLDRIMASH_BAD_LIST, THOLDRIMASH_NONE_RESOLVED, THOLDRIMASH_NONE_KNOWN,
+                                         THOLDRIMASH_TIED, THOLDRIMASH_NO_ROOM};
+    char version[16];
+
+    for (uint32_t i = 0; i < LEN(matching); i++) check("names", "of matching", matching[i] == i);
+    check("names", "of a choice", THOLDRIMASH_CHOSEN == 0);
+    for (uint32_t i = 0; i < LEN(selection); i++) check("names", "of selection", selection[i] == LEN(matching) + i);
+    snprintf(version, sizeof version, "%d.%d.%d", THOLDRIMASH_VERSION_MAJOR, THOLDRIMASH_VERSION_MINOR,
+             THOLDRIMASH_VERSION_PATCH);
+    check("names", "version", strcmp(version, THOLDRIMASH_VERSION) == 0);
+}
+
+/* The manual's notation of a part: a character, `ws`, `expr`, or `sub` with a ruleset's number. */
+static uint16_t part_of(const char *token, size_t len) {
+    if (len == 1) return (unsigned char)*token;
+    if (len == 2) return 256;
+    if (*token == 'e') return 257;
+    return (uint16_t)(512 + atoi(token + 3));
+}
+
+/* Where the words of small tables are put together. */
+typedef struct {
+    uint16_t words[128];
+    size_t len;
+} packed;
+
+static void put(packed *t, const uint16_t *words, size_t len) {
+    memcpy(t->words + t->len, words, len * sizeof *words);
+    t->len += len;
+}
+
+/* A table from its rules in the manual's notation: `|` parts rules, `/` begins a ruleset that is nested only, and `//`
+ * a top one. No part at all is a rule of no parts. */
+static packed pack(const char *rules) {
+    uint16_t flags[3] = {0}, records[24], parts[64], sets = 1, fields = 0, count = 0, first = 0;
+    for (const char *at = rules;;) {
+        at += strspn(at, " ");
+        size_t len = strcspn(at, " ");
+        if (len > 0 && *at != '|' && *at != '/') {
+            parts[count++] = part_of(at, len);
+        } else {
+            records[fields++] = (uint16_t)(sets - 1);
+            records[fields++] = first;
+            records[fields++] = (uint16_t)(count - first);
+            first = count;
+            if (len == 0) break;
+            if (*at == '/') flags[sets++] = len == 1;
+        }
+        at += len;
+    }
+    const uint16_t sizes[] = {sets, (uint16_t)(fields / 3), count};
+    packed t = {.len = 0};
+    put(&t, sizes, LEN(sizes));
+    put(&t, flags, sets);
+    put(&t, records, fields);
+    put(&t, parts, count);
+    return t;
+}
+
+/* The sheet of a line of n bytes, and its length, from its entries other than 255, as `free(3,5)=5, greedy(0,2)=1`. */
+static size_t fill(uint8_t *sheet, size_t n, const char *entries) {
+    size_t side = n + 1, half = side * side;
+    unsigned c, l, end;
+    char kind;
+    int read;
+    memset(sheet, 255, 2 * half);
+    while (sscanf(entries, " %c%*[a-z](%u,%u)=%u%n", &kind, &c, &l, &end, &read) == 4) {
+        sheet[(kind == 'g' ? half : 0) + c * side + l] = (uint8_t)end;
+        entries += read;
+        entries += strspn(entries, ",");
+    }
+    return 2 * half;
+}
+
+/* The words of a list of numbers, and how many. */
+static size_t numbers(uint16_t *words, const char *list) {
+    size_t len = 0;
+    unsigned word;
+    int read;
+    while (sscanf(list, " %u%n", &word, &read) == 1) {
+        words[len++] = (uint16_t)word;
+        list += read;
+        list += strspn(list, ",");
+    }
+    return len;
+}
+
+/* An example of the manual. Words that it does not tell are NULL. */
+typedef struct {
+    const char *rules, *line, *sheet;
+    uint32_t number, visits;
+    const char *words;
+} example;
+
+static void runs(matching *run, example e) {
+    char name[128];
+    uint8_t sheet[2 * 48 * 48];
+    uint16_t words[128], answer[1024];
+    packed t = pack(e.rules);
+    size_t line_len = strlen(e.line), sheet_len = fill(sheet, line_len, e.sheet);
+
+    snprintf(name, sizeof name, "manual, %s on %s", e.rules, e.line);
+    if (e.number == THOLDRIMASH_MATCHED && !e.words) {
+        tholdrimash_answer told =
+            run(t.words, t.len, (const uint8_t *)e.line, line_len, sheet, sheet_len, ALL, answer, LEN(answer));
+        check(name, "number", told.number == e.number);
+        check(name, "visits", told.visits == e.visits);
+        return;
+    }
+    size_t len = e.words ? numbers(words, e.words) : 0;
+    gives(name, run, (call){t.words, t.len, e.line, sheet, sheet_len, ALL, len + 1},
+          (tholdrimash_answer){.number = e.number, .visits = e.visits, .words = (uint32_t)len}, words);
+}
+
+/* By scan, and by lookup with the same visits. */
+static void shows(const example *examples, size_t len) {
+    for (size_t i = 0; i < len; i++) {
+        runs(tholdrimash_match, examples[i]);
+        runs(tholdrimash_lookup, examples[i]);
+    }
+}
+
+static const char *const T = "m o v ws expr | m o v ws sub1 / p | q";
+
+/* Chapters 2 to 4. */
+static void steps(void) {
+    const example examples[] = {
+        {"s t e p expr", "step7", "free(4,5)=5", 0, 6, "1,4, 0,0,1, 0,4,5"},
+        {"s t e p expr", "step 7", "free(4,6)=6", 0, 6, "1,4, 0,0,1, 0,5,6"},
+        {"s t e p ws expr", "step7", "free(4,5)=5", 1, 5, NULL},
+        {T, "mov 7", "free(4,5)=5", 1, 12, NULL},
+        {T, "mov 7", "free(4,5)=5, free(3,5)=5", 0, 13, "1,3, 0,0,1, 0,4,5"},
+        {"a x", "ax", "", 0, 3, "1,2, 0,0,0"},
+        {"a x", "a x", "", 0, 3, "1,2, 0,0,0"},
+        {"A x", "aX", "", 0, 3, "1,2, 0,0,0"},
+        {"n o p", "  nop", "", 0, 4, "1,3, 0,0,0"},
+        {"a ws x", "a x", "", 0, 4, "1,2, 0,0,0"},
+        {"a ws x", "ax", "", 1, 2, NULL},
+        {"a ws ws x", "a x", "", 0, 5, "1,2, 0,0,0"},
+        {"n o p ws", "nop", "", 0, 5, "1,3, 0,0,0"},
+        {"expr + expr", "12+3", "free(0,4)=4, free(0,2)=2, free(3,4)=4, greedy(0,4)=2, greedy(3,4)=4", 0, 5,
+         "1,1, 0,0,2, 0,0,2, 0,3,4"},
+        {"expr + expr", "12+3", "free(0,4)=4, free(3,4)=4", 1, 2, NULL},
+        {"expr + c", "ab +c", "free(0,5)=2, free(0,3)=3", 0, 4, "1,2, 0,0,1, 0,0,2"},
+        {"expr sub1 / r", "2r", "free(0,2)=2, greedy(0,2)=1", 0, 7, "1,1, 0,0,2, 0,0,1, 1,1,2, 1,0,0"},
+        {"expr sub1 / r", "2r", "free(0,2)=2", 1, 3, NULL},
+        {"sub1 + c / a", "a+c", "", 0, 8, "1,3, 0,0,1, 1,0,1, 1,0,0"},
+        {"sub1 + c / a ws", "a+c", "", 0, 9, "1,3, 0,0,1, 1,0,1, 1,0,0"},
+        {"sub1 + expr / expr", "a+b", "free(0,3)=3, free(0,1)=1, free(2,3)=3", 0, 9,
+         "1,1, 0,0,2, 1,0,1, 1,0,1, 0,0,1, 0,2,3"},
+        {"a expr b", "a 7b", "free(1,3)=3", 0, 4, "1,2, 0,0,1, 0,2,3"},
+        {"a expr b", "a b", "free(1,3)=1", 0, 4, "1,2, 0,0,1, 0,1,1"},
+        {"a sub1 /", "a", "", 0, 4, "1,1, 0,0,1, 1,1,1, 1,0,0"},
+        {"a", "ab", "", 1, 2, NULL},
+        {"", "", "", 0, 1, "1,0, 0,0,0"},
+        {"", "a", "", 1, 1, NULL},
+        {"a // sub0 b", "ab", "", 0, 9, "1,2, 1,0,1, 1,0,1, 0,0,0"},
+        {T, "mov p", "free(3,5)=5", 0, 15, "1,4, 0,1,1, 1,4,5, 1,0,0"},
+        {"s t e p ws expr | s t e p expr", "step 7", "free(4,6)=6", 0, 13, "2,4, 0,0,1, 0,5,6, 0,1,1, 0,5,6"},
+    };
+    shows(examples, LEN(examples));
+    runs(tholdrimash_match, (example){"n o p", "no", "", 1, 3, NULL});
+}
+
+/* Chapter 3.4. The rule is an expression, the character, and what follows it in the line; the sheet has an end under
+ * that one place. So the line matches exactly if that is the cut. */
+static void cuts_at(const char *line, char wanted, int place) {
+    size_t n = strlen(line);
+    for (size_t p = 0; p < n; p++) {
+        if ((line[p] | 32) != (wanted | 32)) continue;
+        char rules[64] = "expr", entry[64], words[64];
+        for (size_t i = p; i < n; i++) {
+            strcat(rules, " ");
+            strncat(rules, line + i, 1);
+        }
+        snprintf(entry, sizeof entry, "free(0,%zu)=%zu", p, p);
+        snprintf(words, sizeof words, "1,%zu, 0,0,1, 0,0,%zu", n - p, p);
+        int is_cut = place >= 0 && (size_t)place == p;
+        example e = {rules, line, entry, !is_cut, is_cut ? (uint32_t)(n - p + 2) : 1, is_cut ? words : NULL};
+        shows(&e, 1);
+    }
+}
+
+static void cuts(void) {
+    cuts_at("a+b", '+', 1);
+    cuts_at("+a+b", '+', 2);
+    cuts_at("-1-2", '-', 2);
+    cuts_at("(a+b)+c", '+', 5);
+    cuts_at("{a+b}+c", '+', 5);
+    cuts_at("[a+b]+c", '+', 2);
+    cuts_at("a)+b", '+', -1);
+    cuts_at("(})+", '+', -1);
+    cuts_at("(a+b", '+', -1);
+    cuts_at("a)+b", ')', 1);
+    cuts_at("(a))", ')', 3);
+    cuts_at("a(", '(', 1);
+    cuts_at("((", '(', -1);
+    cuts_at("-2X3", 'x', 2);
+}
+
+/* Chapters 5 and 6. */
+static void walks(void) {
+    const example examples[] = {
+        {"sub1 / ( sub1 ) | x", "((((((((((x))))))))))", "", 0, 8189, NULL},
+        {"sub1 / ( sub1 ) | x", "(((((((((((x)))))))))))", "", 8, 10948, NULL},
+        {"sub1 / ( sub1 sub2 | x / )", "(((((((((((x)))))))))))", "", 0, 82, NULL},
+        {"sub0", "", "", 7, 17, NULL},
+        {"sub1 / sub1 + a | a", "a+a", "", 7, 17, NULL},
+        {"sub1 / a + sub1 | a", "a+a", "", 0, 13, "1,3, 0,0,1, 1,0,3, 1,0,1, 1,2,3, 1,1,0"},
+        {"sub1 / a sub1 | a", "aaaaaaaaaaaaaaa", "", 0, 183, NULL},
+        {"sub1 / a sub1 | a", "aaaaaaaaaaaaaaaa", "", 7, 33, NULL},
+    };
+    shows(examples, LEN(examples));
+
+    const char *mov = "m o v q | m o v p | m o v ws expr | o v p", *order = "a expr | expr b";
+    runs(tholdrimash_match, (example){mov, "  MoV p", "free(5,7)=7", 0, 16, "1,4, 0,1,0"});
+    runs(tholdrimash_lookup, (example){mov, "  MoV p", "free(5,7)=7", 0, 11, "1,4, 0,1,0"});
+    runs(tholdrimash_match,
+         (example){order, "ab", "free(1,2)=2, free(0,1)=1", 0, 6, "2,1, 0,0,1, 0,1,2, 0,1,1, 0,0,1"});
+    runs(tholdrimash_lookup,
+         (example){order, "ab", "free(1,2)=2, free(0,1)=1", 0, 6, "2,1, 0,1,1, 0,0,1, 0,0,1, 0,1,2"});
+}
+
+/* The budgets of chapters 5 and 6. */
+static void budgets(void) {
+    static const uint16_t fourth[] = {1, 1, 0, 3, 0};
+    uint8_t sheet[8];
+    packed itself = pack("sub0"), many = pack("sub1 sub1 sub1 sub1 sub1 sub1 sub1 / | |"), four = pack("a | b | c | d");
+
+    call c = {itself.words, itself.len, "", sheet, fill(sheet, 0, ""), 17, 0};
+    refused("depth 17 and budget 17", c, (tholdrimash_answer){.number = THOLDRIMASH_TOO_DEEP, .visits = 17});
+    c.budget = 16;
+    refused("depth 17 and budget 16", c, (tholdrimash_answer){.number = THOLDRIMASH_SPENT, .visits = 16});
+
+    c = (call){many.words, many.len, "", sheet, fill(sheet, 0, ""), 3077, 0};
+    refused("record 4,097 and budget 3,077", c, (tholdrimash_answer){.number = THOLDRIMASH_POOL_FULL, .visits = 3077});
+    c.budget = 3076;
+    refused("record 4,097 and budget 3,076", c, (tholdrimash_answer){.number = THOLDRIMASH_SPENT, .visits = 3076});
+
+    c = (call){four.words, four.len, "d", sheet, fill(sheet, 1, ""), 2, LEN(fourth)};
+    gives("budget 2, scan", tholdrimash_match, c, (tholdrimash_answer){.number = THOLDRIMASH_SPENT, .visits = 2}, NULL);
+    gives("budget 2, lookup", tholdrimash_lookup, c,
+          (tholdrimash_answer){.number = THOLDRIMASH_MATCHED, .visits = 2, .words = LEN(fourth)}, fourth);
+}
+
+/* Chapter 9: outcomes, what each pass gives, and the words after it. */
+typedef struct {
+    uint32_t words[3];
+    size_t len;
+    uint32_t guessing, last, count;
+    uint16_t indices[3];
+    uint32_t after[3];
+} outcomes;
+
+static void chooses(void) {
+    static const outcomes lists[] = {
+        {{134, 71}, 2, 0, 0, 1, {1}, {135, 71}},
+        {{134, 70, 70}, 3, 0, 13, 2, {1, 2}, {134, 70, 70}},
+        {{70, 71}, 2, 0, 13, 2, {0, 1}, {71, 71}},
+        {{2, 134}, 2, 0, 0, 1, {1}, {2, 134}},
+        {{4, 70}, 2, 0, 0, 1, {1}, {4, 70}},
+        {{0, 70}, 2, 0, 0, 1, {1}, {0, 71}},
+        {{2}, 1, 11, 11, 0, {0}, {2}},
+        {{4}, 1, 12, 12, 0, {0}, {4}},
+        {{4, 2}, 2, 12, 12, 0, {0}, {4, 2}},
+        {{0}, 0, 11, 11, 0, {0}, {0}},
+        {{1}, 1, 10, 10, 0, {0}, {1}},
+        {{10}, 1, 10, 10, 0, {0}, {10}},
+        {{524286}, 1, 0, 0, 1, {0}, {524286}},
+        {{524294}, 1, 10, 10, 0, {0}, {524294}},
+    };
+    for (size_t i = 0; i < LEN(lists); i++) {
+        outcomes o = lists[i];
+        tholdrimash_selection guessing = {.number = o.guessing, .count = o.count},
+                              last = {.number = o.last, .count = o.count};
+        selects("manual, guessing pass", o.words, o.len, 0, 3, guessing, o.indices, o.after);
+        selects("manual, last pass", o.words, o.len, 1, 3, last, o.indices, o.after);
+    }
+}
+
 int main(void) {
+    names();
     on_t();
     on_empty_line();
     ties();
     choices();
+    steps();
+    cuts();
+    walks();
+    budgets();
+    chooses();
     printf("interface.c: %u checks, %u failed\n", checks, failed);
     return failed != 0;
 }

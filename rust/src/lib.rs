@@ -6,7 +6,8 @@
 //! threads may call at once. A call takes at most some 128 KiB of stack, which is measured, not
 //! proved.
 //!
-//! The core is proved; this crate is only tested.
+//! The core is proved; this crate is only tested. The repository's docs/MANUAL.md has all of it at
+//! length: every term, a worked example of each step, and what to do about each number.
 //!
 //! - [`match_line`] finds the readings with the greatest exact count, [`lookup_line`] the same ones
 //!   by prefix.
@@ -31,7 +32,7 @@
 //! ];
 //! let line = b"mov p";
 //! let mut sheet = [255; 2 * 6 * 6]; // 2(n+1)^2 bytes for a line of n
-//! sheet[3 * 6 + 5] = 5; // a free parse from 3 under the limit 5 ends at 5
+//! sheet[3 * 6 + 5] = 5; // a free parse from 3, on the space, under the limit 5 ends at 5
 //! let mut answer = [0; 64];
 //!
 //! let words = match_line(&table, line, &sheet, 1_000, &mut answer).written()?;
@@ -49,6 +50,10 @@
 //! # Ok(())
 //! # }
 //! ```
+//!
+//! The sheet says where the caller's own expressions end, from each start and under each limit. It
+//! is asked at the cursor, which may stand on the whitespace before an expression: [`match_line`]
+//! says more.
 //!
 //! The crate links libtholdrimash.a, for x86-64 Linux. `rt staticlib tholdrimash` writes it, and
 //! THOLDRIMASH_LIB names its folder where that is not the repository's target/staticlib.

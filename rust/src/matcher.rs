@@ -7,6 +7,12 @@ use std::fmt;
 /// What matching returns: number 0, or the refusal.
 ///
 /// [`written`](Answer::written) parts the two, so that a refusal is an error for `?`.
+///
+/// A visit is an arrival at a place in a rule's pattern: at each part that the walk comes to, and
+/// at the pattern's end. A record is taken for each argument that the walk goes on with and for
+/// each match that it completes, and none is given back before the call ends. Depth is 0 for a top
+/// rule, and one more for each rule that it stands in. docs/MANUAL.md, chapter 8, says what to do
+/// about each refusal.
 #[must_use]
 #[derive(Clone, Copy, Debug, PartialEq, Eq, Hash)]
 pub enum Answer {
@@ -17,7 +23,8 @@ pub enum Answer {
         /// Words written, for [`Readings::read`](crate::Readings::read).
         words: usize,
     },
-    /// 1: the line has no reading.
+    /// 1: the line has no reading. If it should have one, is the sheet filled where whitespace
+    /// stands before an expression? See [`match_line`].
     NoMatch {
         /// Visits made.
         visits: u32,
@@ -33,22 +40,24 @@ pub enum Answer {
     BadSheet,
     /// 5: the budget is not from 1 to 1,000,000.
     BadBudget,
-    /// 6: the next visit would exceed the budget.
+    /// 6: the next visit would exceed the budget. More may do, up to 1,000,000.
     Spent {
         /// Visits made, which are the budget.
         visits: u32,
     },
-    /// 7: a nested step would enter depth 17.
+    /// 7: a nested step would enter depth 17. Mostly this is left recursion: a ruleset that comes
+    /// to itself again with no byte consumed in between.
     TooDeep {
         /// Visits made so far.
         visits: u32,
     },
-    /// 8: the walk has filled its pool of 4,096 records, and one more is due.
+    /// 8: the walk has filled its pool of 4,096 records, and one more is due. A nested parameter
+    /// with an exact part after it is tried twice, so eleven nested brackets are enough.
     PoolFull {
         /// Visits made so far.
         visits: u32,
     },
-    /// 9: the answer is longer than the buffer.
+    /// 9: the answer is longer than the buffer. Call again with as many words as it says.
     TooLong {
         /// Visits made.
         visits: u32,
@@ -129,16 +138,46 @@ impl Error for Answer {}
 /// - `table`: S (1 to 32), R (0 to 512), P (0 to 8,192); S flags (0 top ruleset, 1 nested only);
 ///   R records of ruleset, first part, part count, in nondecreasing ruleset order; P parts: 33 to
 ///   126 except 59 (that byte, case ignored), 256 (whitespace), 257 (expression), 512 + r (a rule
-///   of ruleset r). A rule has at most 64 parts, at most 8 of them parameters; the part counts add
-///   up to at most P.
+///   of ruleset r). The last two are parameters. A rule has at most 64 parts, at most 8 of them
+///   parameters; the part counts add up to at most P. A rule's number counts from 0 within its
+///   ruleset, not within the table.
 /// - `line`: 0 to 120 bytes, each 9, 32 or 33 to 126 except 59. The last is no whitespace.
-/// - `sheet`: 2(n+1)^2 bytes for a line of n. Where a free parse from c under the limit l ends, at
-///   c(n+1)+l; then, in the second half, where a greedy decimal parse ends. 255 is none, else the
-///   end is from c to l. Entries with c above l may hold anything.
-/// - `budget`: how many visits the walk may make, 1 to 1,000,000.
+/// - `sheet`: 2(n+1)^2 bytes for a line of n: the free ends, free(c, l) at c(n+1)+l, then in the
+///   same order the greedy decimal ends. 255 is none, else the end is from c to l. Entries with c
+///   above l may hold anything. free(c, l) is where the caller's expression parser ends if it
+///   begins at c and the line stops at l. greedy(c, l) is where the longest run of decimal digits
+///   from c ends, over whitespace before it, if there is a digit.
+/// - `budget`: how many visits the walk may make, 1 to 1,000,000. It bounds the time of a call, and
+///   changes no answer but to 6: take 1,000,000 if unsure.
 /// - `answer`: where the readings go. [`Readings`](crate::Readings) says how they are written.
 ///
 /// The table, the line, the sheet and the budget are checked in this order.
+///
+/// # The sheet is asked at the cursor
+///
+/// The start c is the cursor, and it often stands on the whitespace before an expression: a
+/// whitespace part consumes nothing, and an exact part leaves the cursor right behind its byte. A
+/// sheet that knows only the first bytes of expressions passes every check, and good lines get no
+/// match. So parse from every c, over whitespace before the expression:
+///
+/// ```
+/// use tholdrimash::{match_line, Answer};
+///
+/// let mov = [1, 1, 5, 0, 0, 0, 5, 109, 111, 118, 256, 257]; // m, o, v, whitespace, an expression
+/// let mut answer = [0; 8];
+///
+/// let mut sheet = [255; 2 * 6 * 6];
+/// sheet[4 * 6 + 5] = 5; // free(4, 5) = 5: from the 7 on. It is not asked for.
+/// let told = match_line(&mov, b"mov 7", &sheet, 100, &mut answer);
+/// assert_eq!(told, Answer::NoMatch { visits: 5 });
+///
+/// sheet[3 * 6 + 5] = 5; // free(3, 5) = 5: from the space on.
+/// let told = match_line(&mov, b"mov 7", &sheet, 100, &mut answer);
+/// assert_eq!(told, Answer::Matched { visits: 6, words: 8 });
+/// assert_eq!(answer, [1, 3, 0, 0, 1, 0, 4, 5]); // the argument is the 7 alone
+/// ```
+///
+/// # Refusals
 ///
 /// ```
 /// use tholdrimash::{match_line, Answer};

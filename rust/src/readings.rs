@@ -10,6 +10,8 @@ const DEEPEST: usize = 16;
 type Words<'a> = Copied<Iter<'a, u16>>;
 
 /// The readings that a match found, all with the same, greatest exact count.
+///
+/// docs/MANUAL.md, chapter 7, takes an answer's words apart, one by one.
 #[derive(Clone, Debug, PartialEq, Eq)]
 pub struct Readings {
     /// The exact count that each has: its exact parts, those of nested rules included.
@@ -32,7 +34,7 @@ pub struct Tree {
 /// What a parameter stands for.
 #[derive(Clone, Debug, PartialEq, Eq)]
 pub struct Argument {
-    /// Its bytes in the line.
+    /// Its bytes in the line, without the whitespace before them. It may be empty.
     pub span: Range<usize>,
     /// What they are.
     pub kind: Kind,

@@ -15,7 +15,9 @@ pub enum Pass {
 
 /// What selection returns: number 0, or the refusal.
 ///
-/// [`written`](Selection::written) parts the two, so that a refusal is an error for `?`.
+/// [`written`](Selection::written) parts the two, so that a refusal is an error for `?`. An outcome
+/// is resolved if it is of kind 2 or 3, and known if it is of kind 3: see [`select`].
+/// docs/MANUAL.md, chapter 8, says what to do about each refusal.
 #[must_use]
 #[derive(Clone, Copy, Debug, PartialEq, Eq, Hash)]
 pub enum Selection {
@@ -26,9 +28,9 @@ pub enum Selection {
     },
     /// 10: more than 4,096 words, or one that is no outcome.
     BadList,
-    /// 11: no outcome is resolved.
+    /// 11: no outcome is resolved: each is unresolved or a failed constraint, or there is none.
     NoneResolved,
-    /// 12: some are resolved, but no size is known.
+    /// 12: some are resolved, but none is known, so there is no size to choose by.
     NoneKnown,
     /// 13: two or more have the least size, and this is the last pass.
     Tied {
@@ -84,9 +86,9 @@ impl Error for Selection {}
 /// Chooses the outcomes of least known size, by index.
 ///
 /// - `outcomes`: up to 4,096 words, each guess + 2 * kind + 8 * size. Kinds: 0 unresolved (the word
-///   is 0), 1 failed constraint, 2 resolved but unknown, 3 sized. The size is 0 to 65,535, and 0
-///   unless sized. If any outcome is a guess (an unresolved one is), a choice and a tie give every
-///   word of kind 1 to 3 its guess bit.
+///   is 0), 1 failed constraint, 2 resolved but unknown, 3 sized. Kinds 2 and 3 are resolved; kind
+///   3 is known. The size is 0 to 65,535, and 0 unless sized. If any outcome is a guess (an
+///   unresolved one is), a choice and a tie give every word of kind 1 to 3 its guess bit.
 /// - `chosen`: where the indices go.
 ///
 /// A tie on the last pass is refused. It still marks guesses:
@@ -108,6 +110,13 @@ impl Error for Selection {}
 /// let told = select(&mut outcomes, Pass::Guessing, &mut chosen);
 /// assert_eq!(told.written(), Ok(2));
 /// assert_eq!(chosen, [1, 2, 9]);
+///
+/// // A failed constraint is not resolved; what is resolved but unknown has no size to choose by.
+/// let (failed, unknown) = (2 * 1, 2 * 2);
+/// let told = select(&mut [failed], Pass::Guessing, &mut chosen);
+/// assert_eq!(told, Selection::NoneResolved);
+/// let told = select(&mut [failed, unknown], Pass::Guessing, &mut chosen);
+/// assert_eq!(told, Selection::NoneKnown);
 /// ```
 pub fn select(outcomes: &mut [u32], pass: Pass, chosen: &mut [u16]) -> Selection {
     told(raw::select(outcomes, pass == Pass::Last, chosen))
