@@ -11,9 +11,15 @@ mod matching;
 mod model;
 mod notation;
 mod random;
+// The crate in rust/ has a layout of its own.
+#[path = "../../rust/src/raw.rs"]
+#[rustfmt::skip]
+mod raw;
 mod record;
 mod report;
 mod selection;
+#[path = "../rust/shown.rs"]
+mod shown;
 mod sides;
 
 use report::Report;
