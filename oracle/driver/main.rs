@@ -15,12 +15,16 @@ mod random;
 #[path = "../../rust/src/raw.rs"]
 #[rustfmt::skip]
 mod raw;
+#[path = "../../rust/src/readings.rs"]
+#[rustfmt::skip]
+mod readings;
 mod record;
 mod report;
 mod selection;
 #[path = "../rust/shown.rs"]
 mod shown;
 mod sides;
+mod ways;
 
 use report::Report;
 
