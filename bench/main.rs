@@ -6,8 +6,13 @@
 mod cases;
 #[path = "../oracle/driver/notation.rs"]
 mod notation;
+// The crate in rust/ has a layout of its own.
+#[path = "../rust/src/raw.rs"]
+#[rustfmt::skip]
+mod raw;
 
 use cases::Case;
+use raw::Order;
 use std::hint::black_box;
 use std::time::{Duration, Instant};
 
@@ -20,75 +25,10 @@ const SAMPLES: usize = 8;
 /// How long a sample takes at least.
 const SAMPLE: Duration = Duration::from_millis(4);
 
-#[repr(C)]
-struct Answer {
-    number: u32,
-    visits: u32,
-    words: u32,
-    place: u32,
-}
-
-#[repr(C)]
-struct Selection {
-    number: u32,
-    count: u32,
-}
-
-#[link(name = "tholdrimash", kind = "static")]
-extern "C" {
-    fn tholdrimash_match(
-        table: *const u16,
-        table_len: usize,
-        line: *const u8,
-        line_len: usize,
-        sheet: *const u8,
-        sheet_len: usize,
-        budget: u32,
-        answer: *mut u16,
-        answer_len: usize,
-    ) -> Answer;
-    fn tholdrimash_lookup(
-        table: *const u16,
-        table_len: usize,
-        line: *const u8,
-        line_len: usize,
-        sheet: *const u8,
-        sheet_len: usize,
-        budget: u32,
-        answer: *mut u16,
-        answer_len: usize,
-    ) -> Answer;
-    fn tholdrimash_select(
-        outcomes: *mut u32,
-        outcomes_len: usize,
-        last_pass: u32,
-        chosen: *mut u16,
-        chosen_len: usize,
-    ) -> Selection;
-}
-
 /// A call of the proved library. With budget 0 it ends after its checks, in number 5.
-fn proved(case: &Case, lookup: bool, budget: u32, room: &mut [u16]) -> Answer {
-    let run = if lookup { tholdrimash_lookup } else { tholdrimash_match };
-    // SAFETY: each pointer and length are one slice's.
-    unsafe {
-        run(
-            case.table.as_ptr(),
-            case.table.len(),
-            case.line.as_ptr(),
-            case.line.len(),
-            case.sheet.as_ptr(),
-            case.sheet.len(),
-            budget,
-            room.as_mut_ptr(),
-            room.len(),
-        )
-    }
-}
-
-fn proved_select(words: &mut [u32], room: &mut [u16]) -> Selection {
-    // SAFETY: as above.
-    unsafe { tholdrimash_select(words.as_mut_ptr(), words.len(), 1, room.as_mut_ptr(), room.len()) }
+fn proved(case: &Case, lookup: bool, budget: u32, room: &mut [u16]) -> raw::Answer {
+    let order = if lookup { Order::Lookup } else { Order::Scan };
+    raw::call(order, &case.table, &case.line, &case.sheet, budget, room)
 }
 
 // What callgrind counts: these three and what they call.
@@ -187,14 +127,14 @@ fn time_selection(count: usize, least: &mut [f64; 2]) {
     let mut words = cases::outcomes(count);
     let mut room = vec![0; count];
     let mut outcomes = oracle::Outcomes::new(&words);
-    let (own, rust) = (proved_select(&mut words, &mut room), outcomes.select(false));
+    let (own, rust) = (raw::select(&mut words, true, &mut room), outcomes.select(false));
     assert!((own.number, own.count as usize) == (rust.number, rust.count));
     assert!(room.iter().zip(&rust.chosen).all(|(own, rust)| *own as usize == *rust));
     lower(
         least,
         [
             &mut || {
-                black_box(proved_select(black_box(&mut words), &mut room).count);
+                black_box(raw::select(black_box(&mut words), true, &mut room).count);
             },
             &mut || {
                 black_box(outcomes.select(false).count);

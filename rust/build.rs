@@ -1,5 +1,6 @@
-// Links libtholdrimash.a. THOLDRIMASH_LIB names the folder that holds it, from this crate's folder
-// if the path is relative; without it that is the repository's target/staticlib.
+// Says where libtholdrimash.a is, which src/raw.rs links. THOLDRIMASH_LIB names the folder that holds
+// it, from this crate's folder if the path is relative; without it that is the repository's
+// target/staticlib.
 use std::ffi::OsString;
 use std::path::PathBuf;
 use std::{env, process};
@@ -22,7 +23,6 @@ fn main() {
         ));
     }
     println!("cargo:rustc-link-search=native={}", folder.display());
-    println!("cargo:rustc-link-lib=static=tholdrimash");
 }
 
 /// The archive's folder, as a whole path: the linker runs in another folder than this program.

@@ -1,25 +1,41 @@
 //! Compares the proved code with the Rust, in one process: walker moves and cuts, prefix queries, match calls by scan and by
 //! lookup, and selection. What the Rust does not decide is held to a third reading of document 01 (model.rs).
 //!
-//!     compare [--cases N] [--seed S] [--only ground|matching|selection] [--quick] [--record FOLDER]
+//!     compare [--cases N] [--seed S] [--only walker|prefixes|matching|selection] [--quick] [--record FOLDER]
 //!
 //! `--cases` is how many random cases of the seed are made; `--quick` leaves out the exhaustive short ones. `--record` writes
-//! the recorded sample (record.rs) and compares nothing. Ends with 1 if anything differs, 2 if it is used wrongly.
+//! the recorded sample (record.rs) and compares nothing. The last line is 'N passed, M failed', where each of the four is one
+//! test, which passes if nothing differs. Ends with 1 if anything differs, 2 if it is used wrongly.
 mod cases;
 mod ground;
 mod matching;
 mod model;
 mod notation;
 mod random;
+// The crate in rust/ has a layout of its own.
+#[path = "../../rust/src/raw.rs"]
+#[rustfmt::skip]
+mod raw;
+#[path = "../../rust/src/readings.rs"]
+#[rustfmt::skip]
+mod readings;
 mod record;
 mod report;
 mod selection;
+#[path = "../rust/shown.rs"]
+mod shown;
 mod sides;
+mod ways;
 
 use report::Report;
 
-/// What can be compared alone: a name, and what gives the number of differences.
-const PARTS: [(&str, fn(&Args) -> usize); 3] = [("ground", ground), ("matching", matching), ("selection", selection)];
+/// What can be compared alone: a name, and what compares it.
+const PARTS: [(&str, fn(&mut Report, &Args)); 4] = [
+    ("walker", walker),
+    ("prefixes", prefixes),
+    ("matching", matching),
+    ("selection", selection),
+];
 
 struct Args {
     cases: u64,
@@ -51,45 +67,41 @@ fn args() -> Option<Args> {
     Some(args)
 }
 
-fn ground(args: &Args) -> usize {
-    let report = &mut Report::default();
+fn walker(report: &mut Report, args: &Args) {
     if !args.quick {
         ground::all_bytes(report);
         ground::short_lines(report);
-        ground::short_queries(report);
     }
     ground::random_lines(report, args.seed, args.cases);
-    ground::random_queries(report, args.seed, args.cases / 10);
-    report.print("walkers, cuts, prefixes");
-    report.differences
 }
 
-fn matching(args: &Args) -> usize {
-    let report = &mut Report::default();
+fn prefixes(report: &mut Report, args: &Args) {
+    if !args.quick {
+        ground::short_queries(report);
+    }
+    ground::random_queries(report, args.seed, args.cases / 10);
+}
+
+fn matching(report: &mut Report, args: &Args) {
     matching::numbers(report);
     if !args.quick {
         matching::short(report);
     }
     matching::random(report, args.seed, args.cases);
-    report.print("matching");
-    report.differences
 }
 
-fn selection(args: &Args) -> usize {
-    let report = &mut Report::default();
+fn selection(report: &mut Report, args: &Args) {
     selection::numbers(report);
     if !args.quick {
         selection::short(report);
     }
     selection::random(report, args.seed, args.cases);
-    report.print("selection");
-    report.differences
 }
 
 fn main() {
     let Some(args) = args() else {
         eprintln!(
-            "usage: compare [--cases N] [--seed S] [--only ground|matching|selection] [--quick] [--record FOLDER]"
+            "usage: compare [--cases N] [--seed S] [--only walker|prefixes|matching|selection] [--quick] [--record FOLDER]"
         );
         std::process::exit(2);
     };
@@ -98,12 +110,18 @@ fn main() {
         return;
     }
     println!("seed {}, {} random cases", args.seed, args.cases);
-    let mut differences = 0;
+    let (mut tests, mut failed, mut differences) = (0, 0, 0);
     for (name, part) in PARTS {
         if args.only.as_deref().map_or(true, |only| only == name) {
-            differences += part(&args);
+            let report = &mut Report::default();
+            part(report, &args);
+            report.print(name);
+            differences += report.differences;
+            tests += 1;
+            failed += (report.differences > 0) as usize;
         }
     }
     println!("{differences} differences");
-    std::process::exit((differences > 0) as i32);
+    println!("{} passed, {failed} failed", tests - failed);
+    std::process::exit((failed > 0) as i32);
 }

@@ -1,9 +1,11 @@
-//! Compares match calls: on every input with the model, and on number 0 and 1, document 01's domain, with the Rust.
+//! Compares match calls: on every input with the model, on numbers 0 and 1, document 01's domain, with the Rust, and lookup
+//! with the scan.
 use crate::cases::{self, Case};
 use crate::model::{self, Answer, Call, Walked};
 use crate::random::Random;
 use crate::report::Report;
 use crate::sides::{proved_match, rust_match};
+use crate::ways;
 
 /// Compares one call; what it gave.
 fn compare(report: &mut Report, call: &Call, lookup: bool) -> Answer {
@@ -75,11 +77,20 @@ fn number_name(number: u32) -> &'static str {
     ][number as usize]
 }
 
-/// A call by scan and by lookup. Where the scan ends in 0 or 1, lookup has no more visits.
+/// A call by scan and by lookup, and one beside the other.
 fn both(report: &mut Report, call: &Call) -> [Answer; 2] {
     let [scan, lookup] = [false, true].map(|lookup| compare(report, call, lookup));
-    if scan.number <= 1 && lookup.visits > scan.visits {
-        report.differ(format!("lookup has more visits than the scan: {}", show(call)));
+    if ways::decides(&scan) {
+        let what = ways::difference(&scan, &lookup);
+        report.see("lookup held to the scan", true);
+        report.see("  trees compared", scan.number == 0);
+        report.see(
+            "  trees in another order",
+            what.is_none() && scan.answer != lookup.answer,
+        );
+        if let Some(what) = what {
+            report.differ(format!("{what}: scan {scan:?}, lookup {lookup:?} of {}", show(call)));
+        }
     }
     [scan, lookup]
 }

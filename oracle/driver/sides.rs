@@ -1,26 +1,14 @@
 //! The two sides of the comparison, each behind safe functions: the proved code, by its C interface and by the C functions
 //! of the crate `probe`, and the Rust, by liboracle.so. All in this process.
 use crate::model::{Answer, Call, Chosen};
+use crate::raw::{self, Order};
+use crate::shown::{self, Seen, PANICKED};
 
 /// What stands at each place of a lent buffer before a call. No answer word and no index is this.
 const UNTOUCHED: u16 = 65535;
 
-#[repr(C)]
-struct CAnswer {
-    number: u32,
-    visits: u32,
-    words: u32,
-    place: u32,
-}
-
-#[repr(C)]
-struct CSelection {
-    number: u32,
-    count: u32,
-}
-
-type CMatch =
-    unsafe extern "C" fn(*const u16, usize, *const u8, usize, *const u8, usize, u32, *mut u16, usize) -> CAnswer;
+/// As many words of that on either side of the buffer, which no call may touch.
+const AROUND: usize = 8;
 
 /// A walker's cursor and limit.
 #[repr(C)]
@@ -36,39 +24,6 @@ pub struct Walker {
 pub struct Place {
     pub found: usize,
     pub place: usize,
-}
-
-#[link(name = "tholdrimash", kind = "static")]
-extern "C" {
-    fn tholdrimash_match(
-        table: *const u16,
-        table_len: usize,
-        line: *const u8,
-        line_len: usize,
-        sheet: *const u8,
-        sheet_len: usize,
-        budget: u32,
-        answer: *mut u16,
-        answer_len: usize,
-    ) -> CAnswer;
-    fn tholdrimash_lookup(
-        table: *const u16,
-        table_len: usize,
-        line: *const u8,
-        line_len: usize,
-        sheet: *const u8,
-        sheet_len: usize,
-        budget: u32,
-        answer: *mut u16,
-        answer_len: usize,
-    ) -> CAnswer;
-    fn tholdrimash_select(
-        outcomes: *mut u32,
-        outcomes_len: usize,
-        last_pass: u32,
-        chosen: *mut u16,
-        chosen_len: usize,
-    ) -> CSelection;
 }
 
 #[link(name = "probe", kind = "static")]
@@ -88,27 +43,6 @@ extern "C" {
         found: *mut u16,
         found_len: usize,
     ) -> usize;
-}
-
-#[repr(C)]
-#[derive(Clone, Copy, Default)]
-pub struct Seen {
-    pub parts: u64,
-    pub kept: u64,
-    pub completed: u64,
-}
-
-#[repr(C)]
-#[derive(Default)]
-struct CMoves {
-    is_over: u32,
-    useful: usize,
-    found: u32,
-    cursor: usize,
-    limit: usize,
-    whitespace: u32,
-    is_cut: u32,
-    cut: usize,
 }
 
 #[link(name = "oracle", kind = "dylib")]
@@ -133,7 +67,7 @@ extern "C" {
         out_len: usize,
         count: *mut u32,
     ) -> u32;
-    fn oracle_moves(line: *const u8, len: usize, cursor: usize, limit: usize, wanted: u8, moves: *mut CMoves);
+    fn oracle_moves(line: *const u8, len: usize, cursor: usize, limit: usize, wanted: u8, moves: *mut shown::Moves);
     fn oracle_query(
         table: *const u16,
         table_len: usize,
@@ -144,9 +78,6 @@ extern "C" {
     ) -> u32;
 }
 
-/// Returned by the oracle if the Rust panics.
-const PANICKED: u32 = u32::MAX;
-
 /// The most words that an answer of the Rust has here.
 const RUST_ROOM: usize = 70_000;
 
@@ -155,37 +86,36 @@ thread_local! {
     static RUST_WORDS: std::cell::RefCell<Vec<u16>> = std::cell::RefCell::new(vec![0; RUST_ROOM]);
 }
 
-// Every unsafe call below lends slices by their own pointers and lengths.
+/// Lends a buffer of so many words to a call, which says how many it wrote. What it returned, what it wrote at the buffer's
+/// start, and whether the rest of the buffer and the words around it are as they were.
+fn lend<T>(room: usize, call: impl FnOnce(&mut [u16]) -> (T, usize)) -> (T, Vec<u16>, bool) {
+    let mut words = vec![UNTOUCHED; AROUND + room + AROUND];
+    let (told, written) = call(&mut words[AROUND..AROUND + room]);
+    let end = AROUND + written.min(room);
+    let left_alone = words[..AROUND].iter().chain(&words[end..]).all(|w| *w == UNTOUCHED);
+    (told, words[AROUND..end].to_vec(), left_alone)
+}
 
 /// What a call of the proved matcher returned, and whether it left alone what it had to: the buffer after its answer, all of
 /// the buffer on a refusal.
 pub fn proved_match(call: &Call, lookup: bool) -> (Answer, bool) {
-    let run: CMatch = if lookup { tholdrimash_lookup } else { tholdrimash_match };
-    let mut buffer = vec![UNTOUCHED; call.room];
-    let told = unsafe {
-        run(
-            call.table.as_ptr(),
-            call.table.len(),
-            call.line.as_ptr(),
-            call.line.len(),
-            call.sheet.as_ptr(),
-            call.sheet.len(),
-            call.budget,
-            buffer.as_mut_ptr(),
-            buffer.len(),
-        )
-    };
-    let written = if told.number == 0 { told.words as usize } else { 0 };
-    let rest = buffer.split_off(written.min(buffer.len()));
+    let order = if lookup { Order::Lookup } else { Order::Scan };
+    let (told, answer, left_alone) = lend(call.room, |buffer| {
+        let told = raw::call(order, &call.table, &call.line, &call.sheet, call.budget, buffer);
+        let written = if told.number == 0 { told.words as usize } else { 0 };
+        (told, written)
+    });
     let answer = Answer {
         number: told.number,
         visits: told.visits,
         words: told.words,
         place: told.place,
-        answer: buffer,
+        answer,
     };
-    (answer, rest.iter().all(|w| *w == UNTOUCHED))
+    (answer, left_alone)
 }
+
+// Every unsafe call below lends slices by their own pointers and lengths.
 
 /// The Rust's answer words, none for no match, and what its calls showed. Nothing if it panicked.
 pub fn rust_match(call: &Call, lookup: bool) -> Option<(Vec<u16>, Seen)> {
@@ -223,17 +153,18 @@ pub fn rust_match(call: &Call, lookup: bool) -> Option<(Vec<u16>, Seen)> {
 /// What a call of the proved selection returned, and whether it left the rest of the buffer alone.
 pub fn proved_select(words: &[u32], last: u32, room: usize) -> (Chosen, bool) {
     let mut words = words.to_vec();
-    let mut buffer = vec![UNTOUCHED; room];
-    let told = unsafe { tholdrimash_select(words.as_mut_ptr(), words.len(), last, buffer.as_mut_ptr(), buffer.len()) };
-    let written = if told.number == 0 { told.count as usize } else { 0 };
-    let rest = buffer.split_off(written.min(buffer.len()));
+    let (told, chosen, left_alone) = lend(room, |buffer| {
+        let told = raw::select(&mut words, last, buffer);
+        let written = if told.number == 0 { told.count as usize } else { 0 };
+        (told, written)
+    });
     let chosen = Chosen {
         number: told.number,
         count: told.count,
         words,
-        chosen: buffer,
+        chosen,
     };
-    (chosen, rest.iter().all(|w| *w == UNTOUCHED))
+    (chosen, left_alone)
 }
 
 /// The Rust's choice among good outcomes, with two things bridged that it can't say. Nothing if it panicked.
@@ -318,7 +249,7 @@ pub fn proved_walkers(line: &[u8], w: Walker, end: usize) -> (Walker, usize, Wal
 }
 
 pub fn rust_moves(line: &[u8], w: Walker, wanted: u8) -> Moves {
-    let mut moves = CMoves::default();
+    let mut moves = shown::Moves::default();
     unsafe { oracle_moves(line.as_ptr(), line.len(), w.cursor, w.limit, wanted, &mut moves) };
     assert_eq!(moves.limit, w.limit);
     Moves {
@@ -335,19 +266,20 @@ pub fn rust_moves(line: &[u8], w: Walker, wanted: u8) -> Moves {
 
 /// The rules that lookup tries, by their places among the table's records.
 pub fn proved_query(table: &[u16], line: &[u8], room: usize) -> Vec<u16> {
-    let mut found = vec![UNTOUCHED; room];
-    let count = unsafe {
-        probe_query_prefixed(
-            table.as_ptr(),
-            table.len(),
-            line.as_ptr(),
-            line.len(),
-            found.as_mut_ptr(),
-            found.len(),
-        )
-    };
-    assert!(found[count..].iter().all(|w| *w == UNTOUCHED));
-    found.truncate(count);
+    let (count, found, left_alone) = lend(room, |buffer| {
+        let count = unsafe {
+            probe_query_prefixed(
+                table.as_ptr(),
+                table.len(),
+                line.as_ptr(),
+                line.len(),
+                buffer.as_mut_ptr(),
+                buffer.len(),
+            )
+        };
+        (count, count)
+    });
+    assert!(left_alone && count == found.len());
     found
 }
 

@@ -3,19 +3,9 @@
 //!
 //! # Safety
 //! Of each: a pointer is to as many items as the length after it says, a pointer without one to one item.
+use crate::shown::{Moves, Seen, PANICKED};
 use crate::*;
 use std::slice::{from_raw_parts, from_raw_parts_mut};
-
-/// Returned if the Rust panics.
-const PANICKED: u32 = u32::MAX;
-
-/// What the Rust's calls show of a walk: parts arrived at, arguments kept, matches completed (count.rs).
-#[repr(C)]
-pub struct Seen {
-    pub parts: u64,
-    pub kept: u64,
-    pub completed: u64,
-}
 
 /// Runs `match_instr`, by prefix lookup unless `lookup` is 0. Writes document 01's answer words if they fit, and returns
 /// their number: 0 for no match.
@@ -108,22 +98,6 @@ fn walker_at(line: &[u8], cursor: usize, limit: usize) -> syntax::Walker<'_> {
     walker.advance_to_token_end(&token);
     walker.set_cursor_limit(limit);
     walker
-}
-
-/// What each move of a walker does.
-#[repr(C)]
-pub struct Moves {
-    pub is_over: u32,
-    pub useful: usize,
-    /// `maybe_expect_char`: whether it was found, and the cursor and limit then.
-    pub found: u32,
-    pub cursor: usize,
-    pub limit: usize,
-    /// The whitespace part's test, as `match_with_rule` makes it.
-    pub whitespace: u32,
-    /// `find_lookahead_char_index`: whether there is a cut, and where, or 0.
-    pub is_cut: u32,
-    pub cut: usize,
 }
 
 /// The moves of a walker whose cursor is at most its limit, and that at most the line's length, for one wanted byte.

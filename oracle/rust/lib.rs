@@ -11,6 +11,7 @@ pub mod calls;
 pub mod count;
 pub mod diagn;
 pub mod expr;
+pub mod shown;
 pub mod syntax;
 pub mod util;
 

@@ -1,5 +1,6 @@
 //! The C interface as `include/tholdrimash.h` declares it, behind functions that take slices. All
-//! unsafe code of the crate is here.
+//! unsafe code of the crate is here, and the only declarations in Rust: the programs of `oracle/`
+//! and `bench/` have this file as a module of theirs.
 //!
 //! The C functions take any values in any memory that their pointers and lengths describe, and keep
 //! no pointer. What they write must overlap nothing else that is lent. A length of 0 asks for a
@@ -27,6 +28,8 @@ pub enum Order {
     Lookup,
 }
 
+// Where the archive is, the build says: build.rs here, `-L` for the programs.
+#[link(name = "tholdrimash", kind = "static")]
 extern "C" {
     fn tholdrimash_match(
         table: *const u16,
@@ -90,14 +93,16 @@ pub fn call(
     }
 }
 
-pub fn select(outcomes: &mut [u32], last_pass: bool, chosen: &mut [u16]) -> Selection {
+/// `last_pass` is a `bool`, or a word as C gives it, where any but 0 is the last pass.
+pub fn select(outcomes: &mut [u32], last_pass: impl Into<u32>, chosen: &mut [u16]) -> Selection {
+    let last_pass = last_pass.into();
     // SAFETY: each pointer and length is a slice's own. Both are borrowed to be changed, so they
     // don't overlap.
     unsafe {
         tholdrimash_select(
             outcomes.as_mut_ptr(),
             outcomes.len(),
-            u32::from(last_pass),
+            last_pass,
             chosen.as_mut_ptr(),
             chosen.len(),
         )
