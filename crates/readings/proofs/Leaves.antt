@@ -12,7 +12,7 @@ use lib.Dec.{leb, ltb}
 use borrow.Author.Tests.{ltb-true, lt-ltb, leb-true, le-leb}
 use Rattle.plain.specs.Choice.{select}
 use Rattle.plain.proofs.Tests.{tested, not-both, and-left, and-right, and-both, or-cases, or-left, or-right}
-use Rattle.syntax.specs.Token.{isWhitespace, sameLetter}
+use Rattle.token.specs.Token.{isWhitespace, sameLetter}
 use Rattle.syntax.specs.Walker.{byteAt, held, over, useful, gap}
 use Rattle.syntax.proofs.Useful.{held-within, useful-is, useful-one}
 use Rattle.defs.specs.declared.ruledef.Part.{Part}

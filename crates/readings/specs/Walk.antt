@@ -8,7 +8,7 @@ use Prim.Native.Nat.{ℕ, zero, suc, _+_, min}
 use lib.Dec.{eqb, ltb}
 use lib.ListN.{length}
 use Rattle.plain.specs.Choice.{select}
-use Rattle.syntax.specs.Token.{sameLetter}
+use Rattle.token.specs.Token.{sameLetter}
 use Rattle.syntax.specs.Walker.{byteAt, useful, gap}
 use Rattle.defs.specs.declared.ruledef.Part.{Part}
 use Rattle.defs.specs.declared.ruledef.Part.the-variants.{Exact, Whitespace, Expression, Nested}
