@@ -8,7 +8,7 @@ use native.Mathlib.Omega.{arith}
 use lib.ListN.{length, getD, drop, set, length-append}
 use lib.Seq.{sets-eq}
 use Rattle.plain.specs.Lists.{keepIf}
-use Rattle.defs.specs.RuledefMap.{putAfter}
+use Rattle.plain.specs.Buffers.{putAfter}
 use Rattle.readings.specs.Tree.{Tree}
 use Rattle.readings.specs.Scene.{Scene, sceneOf}
 use Rattle.readings.specs.Answer.{exactCount, greatestCount, best, treeWords, allWords, wordsOf, answerWords}

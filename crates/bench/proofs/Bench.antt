@@ -3,13 +3,13 @@ use mathlib.Core.Path.{_≡_, refl}
 use mathlib.Core.List.{[], _∷_, flatMap}
 use Rattle.plain.specs.Below.{everyBelow, sumBelow, countBelow}
 use Rattle.plain.specs.Lists.{range, keepIf, some-of, count, listed}
-use Rattle.syntax.specs.Token.{isWhitespace, lowered}
+use Rattle.token.specs.Token.{isWhitespace, lowered}
 use Rattle.syntax.specs.Walker.{held, over, skipped, usefulFrom, useful, expectChar, gap}
 use Rattle.syntax.specs.Cut.{isWanted, isStray, nesting, passedTo, takenIn, turnOf, searched, cutFrom, cut}
-use Rattle.syntax.specs.Line.{isAllowed, firstBad, endsOpen, faultAt}
+use Rattle.line.specs.Line.{isAllowed, firstBad, endsOpen, faultAt}
 use Rattle.defs.specs.Table.{wordAt, flagAt, fieldAt, partWordAt, partOf, ruleFrom, ruleWords, ruleParts, inRange, sizesFit, lengthFits, flagsFit, rulesetBefore, rulesetFits, rulesetsFit, rangeFits, rangesFit, countsFit, parametersIn, parametersFit, isPart, partsFit, tableFits}
 use Rattle.defs.specs.Ruledef.{recordsOf, isTop, rulesetOf}
-use Rattle.defs.specs.RuledefMap.{leading, rulePrefix, linePrefix}
+use Rattle.ruledef_map.specs.RuledefMap.{leading, rulePrefix, linePrefix}
 use Rattle.extents.specs.Sheet.{sized, entryAt, entryFits, fitsAt, rowFits, halfFits, sheetFits, readable, endIn}
 use Rattle.readings.specs.Scene.{sceneOf}
 use Rattle.readings.specs.Plan.{run, _then_, each, mapped}

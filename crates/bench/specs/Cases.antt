@@ -5,11 +5,11 @@ use mathlib.Core.List.{List, [], _∷_, _++_}
 use Prim.Native.Nat.{ℕ}
 use lib.ListN.{length, replicate, set}
 use Rattle.syntax.specs.Cut.{cut}
-use Rattle.defs.specs.RuledefMap.{linePrefix, rulePrefix}
+use Rattle.ruledef_map.specs.RuledefMap.{linePrefix, rulePrefix}
 use Rattle.defs.specs.declared.ruledef.Part.the-variants.{Exact, Whitespace}
 use Rattle.readings.specs.Scene.{walkerAt}
 use Rattle.readings.specs.Call.{Told, scanCall, lookupCall}
-use Rattle.resolver.specs.Selection.{Answer, selected}
+use Rattle.resolver.specs.Selection.{Selected, selected}
 
 -- a table of one top ruleset with one rule
 abbrev pub oneRule : List ℕ → List ℕ
@@ -27,7 +27,7 @@ abbrev pub nines : List ℕ
 nines = replicate 12 9
 
 -- number, count, words, buffer
-abbrev pub settled : Answer → List ℕ
+abbrev pub settled : Selected → List ℕ
 settled r = r .number ∷ r .count ∷ (r .words ++ r .buffer)
 
 -- the cut for a character in a line, from its start; no number if there is none

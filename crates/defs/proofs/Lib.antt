@@ -1,6 +1,4 @@
 pub mod Words
-pub mod Check
+pub mod Fits
 pub mod Starts
-pub mod Prefixes
-pub mod Orders
 pub mod Tight

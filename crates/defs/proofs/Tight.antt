@@ -1,49 +1,45 @@
--- Any two answers that a promise of this crate allows are equal: each is an equation, of the result or of the result
--- with the lent buffer as it stands at exit.
+-- How tight the promises are: any two answers that a function's contract allows on the same arguments are equal. Each law is
+-- stated over the contract itself, `Post`, so a weaker contract breaks it.
 use mathlib.Core.Path.{_≡_}
 use mathlib.Core.Bool.{Bool}
 use mathlib.Core.List.{List}
 use Prim.Native.Nat.{ℕ}
 use Rattle.plain.proofs.Answers.{one-answer}
-use Rattle.defs.specs.Table.{wordAt, rulesetsIn, recordsIn, rulesetAt, partOf, ruleSpan, tableFits}
-use Rattle.defs.specs.Ruledef.{isTopRule, startsOf}
-use Rattle.defs.specs.RuledefMap.{linePrefix, heldPrefix, prefixBytes, topRules, foundRules, putRules}
 use Rattle.defs.specs.declared.ruledef.Part.{Part}
 use Rattle.defs.specs.declared.ruledef.Parts.{Parts}
-use Rattle.defs.specs.declared.ruledef_map.Prefix.{Prefix}
+use Rattle.defs.proofs.ruledef.word_at.Reads as word-at
+use Rattle.defs.proofs.ruledef.field_at.Reads as field-at
+use Rattle.defs.proofs.ruledef.ruleset_count.Reads as ruleset-count
+use Rattle.defs.proofs.ruledef.rule_count.Reads as rule-count
+use Rattle.defs.proofs.ruledef.is_top_rule.Reads as is-top-rule
+use Rattle.defs.proofs.ruledef.ruleset_of.Reads as ruleset-of
+use Rattle.defs.proofs.ruledef.parts_of.Reads as parts-of
+use Rattle.defs.proofs.ruledef.part_at.Reads as part-at
+use Rattle.defs.proofs.ruledef.ruleset_starts.Reads as ruleset-starts
 
-module _ (t : List ℕ) where
-  pub check-table-tight : (r s : Bool) → r ≡ tableFits t → s ≡ tableFits t → r ≡ s
-  check-table-tight r s = one-answer
+pub word-at-tight : (κs a : _) (r s : ℕ) (x y : _) → word-at.Post κs a r x → word-at.Post κs a s y → r ≡ s
+word-at-tight κs a r s x y = λ p q. one-answer (p .0) (q .0)
 
-  pub ruleset-count-tight : (r s : ℕ) → r ≡ rulesetsIn t → s ≡ rulesetsIn t → r ≡ s
-  ruleset-count-tight r s = one-answer
+pub field-at-tight : (κs a : _) (r s : ℕ) (x y : _) → field-at.Post κs a r x → field-at.Post κs a s y → r ≡ s
+field-at-tight κs a r s x y = λ p q. one-answer (p .0) (q .0)
 
-  pub rule-count-tight : (r s : ℕ) → r ≡ recordsIn t → s ≡ recordsIn t → r ≡ s
-  rule-count-tight r s = one-answer
+pub ruleset-count-tight : (κs a : _) (r s : ℕ) (x y : _) → ruleset-count.Post κs a r x → ruleset-count.Post κs a s y → r ≡ s
+ruleset-count-tight κs a r s x y = one-answer
 
-  pub ruleset-starts-tight : (r s : List ℕ) → r ≡ startsOf t → s ≡ startsOf t → r ≡ s
-  ruleset-starts-tight r s = one-answer
+pub rule-count-tight : (κs a : _) (r s : ℕ) (x y : _) → rule-count.Post κs a r x → rule-count.Post κs a s y → r ≡ s
+rule-count-tight κs a r s x y = one-answer
 
-  pub part-at-tight : (at : ℕ) (r s : Part) → r ≡ partOf (wordAt t at) → s ≡ partOf (wordAt t at) → r ≡ s
-  part-at-tight at r s = one-answer
+pub is-top-rule-tight : (κs a : _) (r s : Bool) (x y : _) → is-top-rule.Post κs a r x → is-top-rule.Post κs a s y → r ≡ s
+is-top-rule-tight κs a r s x y = one-answer
 
-  module _ (rule : ℕ) where
-    pub is-top-rule-tight : (r s : Bool) → r ≡ isTopRule t rule → s ≡ isTopRule t rule → r ≡ s
-    is-top-rule-tight r s = one-answer
+pub ruleset-of-tight : (κs a : _) (r s : ℕ) (x y : _) → ruleset-of.Post κs a r x → ruleset-of.Post κs a s y → r ≡ s
+ruleset-of-tight κs a r s x y = one-answer
 
-    pub ruleset-of-tight : (r s : ℕ) → r ≡ rulesetAt t rule → s ≡ rulesetAt t rule → r ≡ s
-    ruleset-of-tight r s = one-answer
+pub parts-of-tight : (κs a : _) (r s : Parts) (x y : _) → parts-of.Post κs a r x → parts-of.Post κs a s y → r ≡ s
+parts-of-tight κs a r s x y = one-answer
 
-    pub parts-of-tight : (r s : Parts) → r ≡ ruleSpan t rule → s ≡ ruleSpan t rule → r ≡ s
-    parts-of-tight r s = one-answer
+pub part-at-tight : (κs a : _) (r s : Part) (x y : _) → part-at.Post κs a r x → part-at.Post κs a s y → r ≡ s
+part-at-tight κs a r s x y = one-answer
 
-  module _ (buffer : List ℕ) (r s : List ℕ × ℕ) where
-    pub top-rules-tight : r ≡ putRules t (topRules t) buffer → s ≡ putRules t (topRules t) buffer → r ≡ s
-    top-rules-tight = one-answer
-
-    pub query-prefixed-tight : (p : Prefix) → r ≡ putRules t (foundRules t (prefixBytes p)) buffer → s ≡ putRules t (foundRules t (prefixBytes p)) buffer → r ≡ s
-    query-prefixed-tight p = one-answer
-
-pub parse-prefix-tight : (line : List ℕ) (r s : Prefix) → r ≡ heldPrefix (linePrefix line) → s ≡ heldPrefix (linePrefix line) → r ≡ s
-parse-prefix-tight line r s = one-answer
+pub ruleset-starts-tight : (κs a : _) (r s : List ℕ) (x y : _) → ruleset-starts.Post κs a r x → ruleset-starts.Post κs a s y → r ≡ s
+ruleset-starts-tight κs a r s x y = one-answer

@@ -9,6 +9,7 @@ use lib.ListN.{length, getD, take, drop, drop-of-length-le}
 use lib.Seq.{slice, slice-cons, take-all, length-take-le}
 use borrow.Author.Tests.{lt-ltb, le-ltb, ne-eqb}
 use Rattle.defs.specs.Table.{wordAt, firstAt, countAt, partOf, ruleFrom, ruleWords, ruleSpan, ruleParts, partsBetween}
+use Rattle.defs.specs.declared.ruledef.Part.{Part}
 use Rattle.defs.specs.declared.ruledef.Part.the-variants.{Exact, Whitespace, Expression, Nested}
 use Rattle.defs.specs.declared.ruledef.Parts.{Parts}
 
@@ -74,3 +75,7 @@ module _ (t : List ℕ) (at end : ℕ) (fits : end ≤ length t) where
   pub parts-next : at < end → partsBetween t at end ≡ partOf (wordAt t at) ∷ partsBetween t (at + 1) end
   unfolding partsBetween wordAt
   parts-next h = ap (map partOf) (slice-cons at end t 0 h fits ∙ ap (λ (n : ℕ). getD t at 0 ∷ slice n end t) (sym (add-one at)))
+
+  -- with the part that was read there
+  pub met : at < end → (q : Part) → q ≡ partOf (wordAt t at) → partsBetween t at end ≡ q ∷ partsBetween t (at + 1) end
+  met h q is = parts-next h ∙ ap (λ (p : Part). p ∷ partsBetween t (at + 1) end) (sym is)

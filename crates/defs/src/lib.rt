@@ -1,3 +1,2 @@
-// Rule tables, from `src/asm/defs` of the Rust: the packed table's check and readers, and the prefix map.
+// Rule tables, from `src/asm/defs` of the Rust: the packed table and its readers.
 pub mod ruledef;
-pub mod ruledef_map;

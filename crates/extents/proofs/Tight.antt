@@ -1,13 +1,14 @@
--- How tight the promises are: any two answers that a promise allows are equal. The check's is an equation of a test; a
--- reader's names the end, and an answer is known by its end.
+-- How tight the promises are: any two answers that a function's contract allows on the same arguments are equal. Each law is
+-- stated over the contract itself, `Post`, so a weaker contract breaks it.
 use mathlib.Core.Path.{_≡_, refl}
 use mathlib.Core.Bool.{Bool}
-use mathlib.Core.List.{List}
-use Prim.Native.Nat.{ℕ}
 use Rattle.plain.proofs.Answers.{one-answer, one-told}
-use Rattle.extents.specs.Sheet.{sheetFits, endOf, freeEnd, greedyEnd}
+use Rattle.extents.specs.Sheet.{endOf}
 use Rattle.extents.specs.declared.Extent.{Extent}
 use Rattle.extents.specs.declared.Extent.the-variants.{Ends, Nothing}
+use Rattle.extents.proofs.check_sheet.Reads as check-sheet
+use Rattle.extents.proofs.free.Reads as free
+use Rattle.extents.proofs.greedy.Reads as greedy
 
 -- an answer is known by its end
 pub same-extent : (r s : Extent) → endOf r ≡ endOf s → r ≡ s
@@ -16,13 +17,11 @@ same-extent (Ends d) Nothing h = cc
 same-extent Nothing (Ends e) h = cc
 same-extent Nothing Nothing h = refl
 
-module _ (sheet : List ℕ) (n : ℕ) where
-  pub check-sheet-tight : (r s : Bool) → r ≡ sheetFits sheet n → s ≡ sheetFits sheet n → r ≡ s
-  check-sheet-tight r s = one-answer
+pub check-sheet-tight : (κs a : _) (r s : Bool) (x y : _) → check-sheet.Post κs a r x → check-sheet.Post κs a s y → r ≡ s
+check-sheet-tight κs a r s x y = one-answer
 
-  module _ (c l : ℕ) (r s : Extent) where
-    pub free-tight : endOf r ≡ freeEnd sheet n c l → endOf s ≡ freeEnd sheet n c l → r ≡ s
-    free-tight = one-told endOf same-extent (freeEnd sheet n c l) r s
+pub free-tight : (κs a : _) (r s : Extent) (x y : _) → free.Post κs a r x → free.Post κs a s y → r ≡ s
+free-tight κs a r s x y = one-told endOf same-extent _ r s
 
-    pub greedy-tight : endOf r ≡ greedyEnd sheet n c l → endOf s ≡ greedyEnd sheet n c l → r ≡ s
-    greedy-tight = one-told endOf same-extent (greedyEnd sheet n c l) r s
+pub greedy-tight : (κs a : _) (r s : Extent) (x y : _) → greedy.Post κs a r x → greedy.Post κs a s y → r ≡ s
+greedy-tight κs a r s x y = one-told endOf same-extent _ r s

@@ -25,13 +25,13 @@ pub record Within (sheet : List ℕ) (n c l : ℕ) : Type 0 where
   pub limit : l ≤ n
 
 -- where a half begins: the free ends first, then the greedy ones
-abbrev pub beginsAt : Half → ℕ → ℕ
-beginsAt Free n = 0
-beginsAt Greedy n = (n + 1) * (n + 1)
+abbrev pub halfFrom : Half → ℕ → ℕ
+halfFrom Free n = 0
+halfFrom Greedy n = (n + 1) * (n + 1)
 
 -- where the entry for start c and limit l stands: at c(n+1)+l in its half
 abbrev pub placeOf : ℕ → Half → ℕ → ℕ → ℕ
-placeOf n half c l = beginsAt half n + (c * (n + 1) + l)
+placeOf n half c l = halfFrom half n + (c * (n + 1) + l)
 
 -- the entry's byte
 unfoldable pub entryAt : List ℕ → ℕ → Half → ℕ → ℕ → ℕ

@@ -1,9 +1,6 @@
 // Runs the ground floor on document 01's bench cases 3, 4, 5 and 6, and on lines, tables and sheets that are refused, and
 // prints what it answers. The file stdout beside src/ has what document 01 says.
-use defs::ruledef;
-use defs::ruledef_map;
-use syntax::line;
-use syntax::line::LineCheck;
+use line::LineCheck;
 use syntax::walker::Lookahead;
 use syntax::walker::Walker;
 
@@ -200,7 +197,7 @@ fn lines() {
 
 fn tabled(what: &[u8], table: &[u16]) {
     say(what);
-    if ruledef::check_table(table) {
+    if acceptance::check_table(table) {
         say(b": good\n");
     } else {
         say(b": 2\n");

@@ -10,7 +10,7 @@ use lib.Seq.{take-all}
 use Rattle.defs.specs.Table.{wordAt, partOf, partsBetween}
 use Rattle.defs.specs.declared.ruledef.Part.{Part}
 use Rattle.defs.proofs.Words.{parts-none}
-use Rattle.defs.proofs.Prefixes.{met}
+use Rattle.defs.proofs.Words.{met}
 use Rattle.readings.specs.Walk.{lookahead}
 
 -- parts that end past the table end with it

@@ -10,9 +10,9 @@ use lib.ListN.{length}
 use borrow.Author.Tests.{le-leb, lt-leb, ltb-false}
 use Rattle.plain.specs.Choice.{select}
 use Rattle.plain.proofs.Tests.{and-both, and-false-left, and-false-right}
-use Rattle.syntax.specs.Line.{isAllowed, firstBad, endsOpen, orElse, faultAt, numbered, lineSays, lineVerdict}
-use Rattle.syntax.specs.declared.line.LineCheck.{LineCheck}
-use Rattle.syntax.specs.declared.line.LineCheck.the-variants as LineCheck
+use Rattle.line.specs.Line.{isAllowed, firstBad, endsOpen, orElse, faultAt, numbered, lineSays, lineVerdict}
+use Rattle.line.specs.declared.LineCheck.{LineCheck}
+use Rattle.line.specs.declared.LineCheck.the-variants as LineCheck
 use Rattle.defs.specs.Table.{tableFits}
 use Rattle.extents.specs.Sheet.{sheetFits}
 use Rattle.readings.specs.Call.{budgetFits}

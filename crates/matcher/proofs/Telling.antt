@@ -10,7 +10,7 @@ use borrow.Author.Tests.{eq-eqb}
 use Rattle.plain.specs.Choice.{select}
 use Rattle.plain.specs.Lists.{keepIf}
 use Rattle.plain.proofs.Members.{kept-has}
-use Rattle.defs.specs.RuledefMap.{linePrefix}
+use Rattle.ruledef_map.specs.RuledefMap.{linePrefix}
 use Rattle.defs.specs.Ruledef.{startsOf}
 use Rattle.readings.specs.Tree.{Tree}
 use Rattle.readings.specs.Scene.{Scene, Lawful, sceneOf}

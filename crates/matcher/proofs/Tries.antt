@@ -12,13 +12,13 @@ use Rattle.plain.proofs.Lists.{listed-length, listed-at}
 use Rattle.syntax.specs.declared.walker.Walker.{Walker}
 use Rattle.defs.specs.Table.{tableFits, recordsIn, rulesetAt, partsBetween, ruleSpan}
 use Rattle.defs.specs.Ruledef.{startsOf, beginsAt}
-use Rattle.defs.specs.RuledefMap.{linePrefix, heldPrefix, prefixBytes, topRules, foundRules, putRules}
+use Rattle.ruledef_map.specs.RuledefMap.{linePrefix, heldPrefix, prefixBytes, topRules, foundRules, putRules}
 use Rattle.defs.specs.declared.ruledef.Part.{Part}
 use Rattle.defs.specs.declared.ruledef.Parts.{Parts}
-use Rattle.defs.specs.declared.ruledef_map.Prefix.{Prefix}
-use Rattle.defs.proofs.Orders.{put-all}
+use Rattle.ruledef_map.specs.declared.Prefix.{Prefix}
+use Rattle.ruledef_map.proofs.Orders.{put-all}
 use Rattle.defs.proofs.Words.{parts-whole}
-use Rattle.syntax.proofs.Lines.{good-is}
+use Rattle.line.proofs.Lines.{good-is}
 use Rattle.readings.specs.Scene.{Scene, sceneOf}
 use Rattle.readings.specs.Tree.{node}
 use Rattle.readings.specs.Plan.{Plan, give, done, run, each, _then_}

@@ -5,7 +5,7 @@ use Prim.Native.Nat.{ℕ, _≤_, _<_}
 use lib.ListN.{length, getD}
 use Rattle.defs.specs.Table.{recordsIn}
 use Rattle.defs.specs.Ruledef.{startsOf}
-use Rattle.defs.specs.RuledefMap.{linePrefix, topRules, foundRules}
+use Rattle.ruledef_map.specs.RuledefMap.{linePrefix, topRules, foundRules}
 use Rattle.readings.specs.Scene.{Scene, sceneOf}
 use Rattle.readings.specs.Answer.{answerWords}
 use Rattle.readings.specs.Plan.{Outcome, done, stop, room}

@@ -3,9 +3,8 @@
 // refused: table, line, sheet, budget (2 to 5); then the walk's budget, depth and pool (6, 7, 8); no match (1); an answer
 // longer than the buffer (9). A refusal leaves the buffer unchanged.
 use defs::ruledef;
-use defs::ruledef_map;
+use line::LineCheck;
 use pool::Pool;
-use syntax::line::LineCheck;
 use syntax::walker::Walker;
 use walk::Place;
 use walk::Refusal;
@@ -66,10 +65,10 @@ pub enum Order {
 fn check(table: &[u16], line: &[u8], sheet: &[u8], budget: u32) -> Checked
     ensures { λ r. ⌜ CheckedAs (now (table .entry)) (now (line .entry)) (now (sheet .entry)) budget r ⌝ }
 {
-    if !ruledef::check_table(table) {
+    if !acceptance::check_table(table) {
         return Checked::Bad(Answer::BadTable);
     }
-    let found = syntax::line::check_line(line);
+    let found = line::check_line(line);
     match found {
         LineCheck::Good => {}
         LineCheck::Bad { place } => {

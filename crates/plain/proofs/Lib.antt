@@ -4,3 +4,6 @@ pub mod Lists
 pub mod Calls
 pub mod Answers
 pub mod Members
+pub mod Passed
+pub mod Kept
+pub mod Replaced

@@ -1,3 +1,4 @@
 pub mod Choice
 pub mod Below
 pub mod Lists
+pub mod Buffers

@@ -12,8 +12,8 @@ use Rattle.syntax.specs.declared.walker.Lookahead.{Lookahead}
 use Rattle.syntax.specs.declared.walker.Lookahead.the-variants as Lookahead
 use Rattle.syntax.specs.Walker.{stepSays}
 use Rattle.syntax.specs.Cut.{cutSays}
-use Rattle.defs.specs.declared.ruledef_map.Prefix.{Prefix}
-use Rattle.defs.specs.RuledefMap.{prefixBytes, foundRules, putRules}
+use Rattle.ruledef_map.specs.declared.Prefix.{Prefix}
+use Rattle.ruledef_map.specs.RuledefMap.{prefixBytes, foundRules, putRules}
 use Rattle.probe.specs.declared.ProbePlace.{ProbePlace}
 use Rattle.probe.specs.Probe.{stepped, placed}
 

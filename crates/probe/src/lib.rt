@@ -1,13 +1,13 @@
 // The ground floor behind C functions, for `oracle/`: a walker's moves, its cut, and the rules that lookup tries, each to be
 // compared with the Rust's own. Each function is one call of `syntax` or `defs`; a walker comes as its cursor and limit.
-use defs::ruledef_map;
+
 use syntax::walker::Lookahead;
 use syntax::walker::Step;
 use syntax::walker::Walker;
 ghost use mathlib.Core.Path.{_≡_};
 ghost use Rattle.syntax.specs.Walker.{held, over, movedTo, limited, useful, expectChar, expectWhitespace};
 ghost use Rattle.syntax.specs.Cut.{cut};
-ghost use Rattle.defs.specs.RuledefMap.{linePrefix, heldPrefix, prefixBytes, foundRules, putRules};
+ghost use Rattle.ruledef_map.specs.RuledefMap.{linePrefix, heldPrefix, prefixBytes, foundRules, putRules};
 ghost use Rattle.probe.specs.Probe.{at, ends, stepped, placed};
 
 // A walker.

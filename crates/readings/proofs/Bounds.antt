@@ -17,13 +17,13 @@ use Rattle.plain.proofs.Tests.{and-left, and-right}
 use Rattle.plain.proofs.Below.{count-most}
 use Rattle.plain.proofs.Lists.{kept-length}
 use Rattle.plain.proofs.Members.{range-below, kept-mem}
-use Rattle.syntax.specs.Token.{isWhitespace}
+use Rattle.token.specs.Token.{isWhitespace}
 use Rattle.syntax.specs.Walker.{byteAt}
-use Rattle.syntax.proofs.Lines.{good-is}
+use Rattle.line.proofs.Lines.{good-is}
 use Rattle.defs.specs.Table.{tableFits, sizesFit, lengthFits, flagsFit, rulesetsFit, rulesetsIn, recordsIn, partsIn, rulesetAt, ruleParts}
 use Rattle.defs.specs.Ruledef.{recordsOf, rulesetOf}
 use Rattle.defs.specs.declared.ruledef.Part.{Part}
-use Rattle.defs.proofs.Check.{Sizes, sizes-bound}
+use Rattle.defs.proofs.Fits.{Sizes, sizes-bound}
 use Rattle.defs.proofs.Starts.{ruleset-below}
 use Rattle.readings.specs.Tree.{Tree, node, Args, end, expr, nest}
 use Rattle.readings.specs.Scene.{Scene, Lawful, sceneOf}

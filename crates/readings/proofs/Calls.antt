@@ -10,7 +10,7 @@ use native.Mathlib.Omega.{arith}
 use lib.ListN.{length, drop}
 use borrow.Author.Tests.{le-leb, lt-leb}
 use Rattle.plain.specs.Choice.{select}
-use Rattle.syntax.specs.Line.{faultAt}
+use Rattle.line.specs.Line.{faultAt}
 use Rattle.defs.specs.Table.{tableFits}
 use Rattle.extents.specs.Sheet.{sheetFits}
 use Rattle.readings.specs.Tree.{Tree}

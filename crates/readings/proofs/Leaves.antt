@@ -12,8 +12,8 @@ use lib.Dec.{leb, ltb}
 use borrow.Author.Tests.{ltb-true, lt-ltb, leb-true, le-leb}
 use Rattle.plain.specs.Choice.{select}
 use Rattle.plain.proofs.Tests.{tested, not-both, and-left, and-right, and-both, or-cases, or-left, or-right}
-use Rattle.syntax.specs.Token.{isWhitespace, sameLetter}
-use Rattle.syntax.specs.Walker.{byteAt, held, over, past, expectChar, gap}
+use Rattle.token.specs.Token.{isWhitespace, sameLetter}
+use Rattle.syntax.specs.Walker.{byteAt, held, over, pastPlace, expectChar, gap}
 use Rattle.syntax.proofs.Useful.{held-within, useful-is, useful-one}
 use Rattle.defs.specs.declared.ruledef.Part.{Part}
 use Rattle.defs.specs.declared.ruledef.Part.the-variants.{Exact, Whitespace, Expression, Nested}
@@ -56,7 +56,7 @@ module _ (s : Scene) (l c : ℕ) where
   stands x = ltb there most && sameLetter (byteAt (s .line) there) x
 
   abbrev leads : Bool → Option ℕ
-  leads b = wentTo (select b (true, past there (walkerAt (s .line) l c)) (false, walkerAt (s .line) l c))
+  leads b = wentTo (select b (true, pastPlace there (walkerAt (s .line) l c)) (false, walkerAt (s .line) l c))
 
   pub exactly-declared : (x d : ℕ) → exactly s l c x ≡ some d → Exactly-at s l c x d
   unfolding exactly expectChar

@@ -13,11 +13,11 @@ use borrow.Author.Tests.{eqb-true}
 use Rattle.plain.specs.Choice.{select}
 use Rattle.plain.specs.Lists.{range, keepIf, Apart}
 use Rattle.plain.proofs.Members.{range-below, range-has, range-apart, kept-mem, kept-has, kept-apart}
-use Rattle.syntax.specs.Token.{isWhitespace, lowered}
+use Rattle.token.specs.Token.{isWhitespace, lowered}
 use Rattle.syntax.specs.Walker.{byteAt, held}
-use Rattle.syntax.specs.Cut.{isSolid}
-use Rattle.defs.specs.RuledefMap.{leading, rulePrefix, linePrefix}
-use Rattle.defs.proofs.Orders.{same-eq, same-refl}
+use Rattle.token.specs.Token.{isSolid}
+use Rattle.ruledef_map.specs.RuledefMap.{leading, rulePrefix, linePrefix}
+use Rattle.ruledef_map.proofs.Orders.{same-eq, same-refl}
 use Rattle.defs.specs.declared.ruledef.Part.{Part}
 use Rattle.readings.specs.Tree.{Args}
 use Rattle.readings.specs.Scene.{Scene, Lawful}

@@ -10,7 +10,7 @@ use native.Mathlib.Omega.{arith}
 use lib.Dec.{ltb}
 use lib.ListN.{length}
 use Rattle.plain.proofs.Tests.{tested}
-use Rattle.syntax.specs.Line.{faultAt}
+use Rattle.line.specs.Line.{faultAt}
 use Rattle.defs.specs.Table.{tableFits}
 use Rattle.extents.specs.Sheet.{sheetFits}
 use Rattle.readings.specs.Scene.{Scene, sceneOf}

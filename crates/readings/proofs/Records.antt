@@ -25,14 +25,14 @@ use Rattle.plain.proofs.Members.{range-from, range-below, range-has, kept-mem, 
 use Rattle.defs.specs.Table.{wordAt, rulesetsIn, recordsIn, partsIn, partsFrom, rulesetAt, firstAt, countAt, partWordAt, partOf, ruleFrom, ruleSpan, ruleParts}
 use Rattle.defs.specs.Table.{tableFits, sizesFit, lengthFits, flagsFit, rulesetsFit, rangeFits, rangesFit, countsFit, parametersFit, isPart, partsFit}
 use Rattle.defs.specs.Ruledef.{recordsOf, isTop, isTopRule, rulesIn, beginsAt}
-use Rattle.defs.specs.RuledefMap.{rulePrefix, sameBytes, topRules, foundRules, markOf, withPrefix as recordsWith}
+use Rattle.ruledef_map.specs.RuledefMap.{rulePrefix, sameBytes, topRules, foundRules, markOf, withPrefix as recordsWith}
 use Rattle.defs.specs.declared.ruledef.Part.{Part}
 use Rattle.defs.specs.declared.ruledef.Part.the-variants.{Nested}
 use Rattle.defs.specs.declared.ruledef.Parts.{Parts}
 use Rattle.defs.proofs.Words.{part-exact, part-whitespace, part-expression, part-nested}
-use Rattle.defs.proofs.Check.{Sizes, sizes-bound, part-ruleset}
+use Rattle.defs.proofs.Fits.{Sizes, sizes-bound, part-ruleset}
 use Rattle.defs.proofs.Starts.{begins-first, begins-next, ruleset-below, records-together, rule-at, rules-length}
-use Rattle.defs.proofs.Orders.{below-room, marks-found}
+use Rattle.ruledef_map.proofs.Orders.{below-room, marks-found}
 use Rattle.readings.specs.Scene.{sceneOf}
 use Rattle.readings.specs.Walk.{topPairs}
 use Rattle.readings.specs.Lookup.{hasPrefix, withPrefix, foundPairs}

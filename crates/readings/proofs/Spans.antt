@@ -10,7 +10,7 @@ use Rattle.plain.specs.Choice.{select}
 use Rattle.plain.specs.Below.{countBelow}
 use Rattle.plain.specs.Lists.{count}
 use Rattle.plain.proofs.Below.{count-more, count-grows}
-use Rattle.syntax.specs.Token.{isWhitespace}
+use Rattle.token.specs.Token.{isWhitespace}
 use Rattle.syntax.specs.Walker.{byteAt, held}
 use Rattle.defs.specs.declared.ruledef.Part.{Part}
 use Rattle.readings.specs.Tree.{Tree, Args}

@@ -7,11 +7,11 @@ use native.Mathlib.Omega.{arith}
 use lib.ListN.{length, getD}
 use Rattle.plain.specs.Choice.{select}
 use Rattle.plain.specs.Lists.{range, keepIf}
-use Rattle.syntax.specs.Line.{faultAt}
+use Rattle.line.specs.Line.{faultAt}
 use Rattle.syntax.specs.Cut.{CutAt, cut}
 use Rattle.defs.specs.Table.{rulesetsIn, tableFits}
 use Rattle.defs.specs.Ruledef.{isTop, rulesetOf}
-use Rattle.defs.specs.RuledefMap.{linePrefix}
+use Rattle.ruledef_map.specs.RuledefMap.{linePrefix}
 use Rattle.extents.specs.Alike.{Alike}
 use Rattle.extents.proofs.Unread.{same-sheet, same-free, same-greedy}
 use Rattle.readings.specs.Scene.{Scene, walkerAt, sceneOf}

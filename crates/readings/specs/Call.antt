@@ -7,9 +7,9 @@ use Prim.Native.Nat.{ℕ, _-_}
 use lib.Dec.{leb}
 use lib.ListN.{length, drop}
 use Rattle.plain.specs.Choice.{select}
-use Rattle.syntax.specs.Line.{faultAt}
+use Rattle.line.specs.Line.{faultAt}
 use Rattle.defs.specs.Table.{tableFits}
-use Rattle.defs.specs.RuledefMap.{linePrefix}
+use Rattle.ruledef_map.specs.RuledefMap.{linePrefix}
 use Rattle.extents.specs.Sheet.{sheetFits}
 use Rattle.readings.specs.Tree.{Tree}
 use Rattle.readings.specs.Scene.{Scene, sceneOf}

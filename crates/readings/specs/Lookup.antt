@@ -5,7 +5,7 @@ use mathlib.Core.List.{List, flatMap}
 use Prim.Native.Nat.{ℕ, suc}
 use lib.ListN.{length, take}
 use Rattle.plain.specs.Lists.{range, keepIf}
-use Rattle.defs.specs.RuledefMap.{rulePrefix, linePrefix, sameBytes}
+use Rattle.ruledef_map.specs.RuledefMap.{rulePrefix, linePrefix, sameBytes}
 use Rattle.readings.specs.Scene.{Scene}
 use Rattle.readings.specs.Plan.{Plan}
 use Rattle.readings.specs.Walk.{Match, topPairs, tries}

@@ -4,7 +4,7 @@ use mathlib.Core.List.{List}
 use Prim.Native.Nat.{ℕ, suc, _+_, max}
 use lib.ListN.{length}
 use Rattle.plain.specs.Below.{countBelow}
-use Rattle.syntax.specs.Token.{isWhitespace}
+use Rattle.token.specs.Token.{isWhitespace}
 use Rattle.syntax.specs.Walker.{byteAt}
 use Rattle.readings.specs.Tree.{Tree, node, Args, end, expr, nest}
 

@@ -8,7 +8,7 @@ use mathlib.Core.Option.{some}
 use Prim.Native.Nat.{ℕ, _+_, _≤_, _<_, min}
 use lib.ListN.{length}
 use Rattle.plain.specs.Lists.{Apart}
-use Rattle.syntax.specs.Token.{isWhitespace, sameLetter}
+use Rattle.token.specs.Token.{isWhitespace, sameLetter}
 use Rattle.syntax.specs.Walker.{byteAt, UsefulPlace}
 use Rattle.defs.specs.declared.ruledef.Part.{Part}
 use Rattle.defs.specs.declared.ruledef.Part.the-variants.{Exact, Whitespace, Expression, Nested}

@@ -11,11 +11,12 @@ use borrow.Author.Tests.{ltb-false}
 use lib.Dec.{ltb}
 use lib.ListN.{length, drop, length-append, length-drop, length-map}
 use lib.Seq.{drop-append-seam}
+use Rattle.plain.specs.Buffers.{atStart}
 use Rattle.plain.specs.Choice.{select}
 use Rattle.plain.specs.Lists.{some-of}
 use Rattle.plain.proofs.Tests.{tested, or-false-left, or-false-right}
 use Rattle.resolver.specs.Outcome.{Outcome, outcomeOf, outcomesOf, wordOf, isBad, isGuess, asGuess}
-use Rattle.resolver.specs.Selection.{marked, choiceOf, writtenTo, refusal, selected}
+use Rattle.resolver.specs.Selection.{marked, choiceOf, refusal, selected}
 use Rattle.resolver.proofs.Words.{outcome-of-word, good-word, small-size}
 use Rattle.resolver.proofs.Marks.{each-good, words-of-outcomes}
 use Rattle.resolver.proofs.Guesses.{as-guess, marked-choice, marked-twice}
@@ -83,10 +84,10 @@ module _
       go false = outcomes-again
 
 -- indices are written where they stand
-written-again : (buffer is : List ℕ) → writtenTo (writtenTo buffer is) is ≡ writtenTo buffer is
+written-again : (buffer is : List ℕ) → atStart is (atStart is buffer) ≡ atStart is buffer
 written-again buffer is = ap (λ (l : List ℕ). is ++ l) (drop-append-seam is (drop (length is) buffer))
 
-written-length : (buffer is : List ℕ) → length is ≤ length buffer → length (writtenTo buffer is) ≡ length buffer
+written-length : (buffer is : List ℕ) → length is ≤ length buffer → length (atStart is buffer) ≡ length buffer
 written-length buffer is room =
     omega (arith, length-append is (drop (length is) buffer), length-drop (length is) buffer)
 
@@ -127,7 +128,7 @@ module _ (ws : List ℕ) (last : Bool) (buffer : List ℕ) where
     again-in (case-0 r k t s) =
         let room = written-length buffer (choiceOf os) (ltb-false (length buffer) (length (choiceOf os)) s) in
         rw (answer (case-0 r k t s))
-        (answer-again (writtenTo buffer (choiceOf os)) (case-0 (rw (same .resolved) r) (rw (same .known) k)
+        (answer-again (atStart (choiceOf os) buffer) (case-0 (rw (same .resolved) r) (rw (same .known) k)
         (rw (same .choices) t) (rw (same .choices, room) s))
         ∙ rw (same .choices, marked-twice, written-again))
 

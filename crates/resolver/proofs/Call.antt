@@ -10,15 +10,16 @@ use borrow.Author.Tests.{lt-ltb, le-ltb, eq-eqb, ne-eqb}
 use lib.Dec.{ltb}
 use lib.ListN.{length}
 use lib.Seq.{take-length}
+use Rattle.plain.specs.Buffers.{atStart}
 use Rattle.plain.specs.Lists.{some-of, count}
 use Rattle.resolver.specs.Outcome.{Outcome, outcomeOf, outcomesOf, wordOf, isBad, isGuess, isResolved, isKnown}
 use Rattle.resolver.specs.Outcome.Outcome.{unresolved}
-use Rattle.resolver.specs.Selection.{marked, leastSize, hasSize, indicesOf, choiceOf, writtenTo, selected}
+use Rattle.resolver.specs.Selection.{marked, leastSize, hasSize, indicesOf, choiceOf, selected}
 use Rattle.resolver.specs.Passes.{Tallied, Smallest}
 use Rattle.resolver.specs.declared.instruction.Selection.the-variants.{Chosen, BadList, NoneResolved}
 use Rattle.resolver.specs.declared.instruction.Selection.the-variants.{NoneKnown, Tied, NoRoom}
-use Rattle.resolver.proofs.Passed.{some-counted}
-use Rattle.resolver.proofs.Kept.{kept-counted}
+use Rattle.plain.proofs.Passed.{some-counted}
+use Rattle.plain.proofs.Kept.{kept-counted}
 use Rattle.resolver.proofs.Least.{least-known}
 use Rattle.resolver.proofs.Cases.{Case, noneResolved, noneKnown, isTied, answer-in, in-case, on-bad}
 use Rattle.resolver.proofs.Cases.Case.{case-11, case-12, case-13, case-14, case-0}
@@ -145,7 +146,7 @@ module _ (ws : List ℕ) (last : Bool) (buffer : List ℕ) where
       -- 0
       pub chosen :
           times ≤ length buffer → {after written : List ℕ} → after ≡ map wordOf (marked (map outcomeOf ws)) →
-          written ≡ writtenTo buffer (indicesOf (some size) (map outcomeOf ws)) →
+          written ≡ atStart (indicesOf (some size) (map outcomeOf ws)) buffer →
           Promised ws last buffer (Chosen times) after written
       chosen room marks writes =
           promised ws last buffer (Chosen times)

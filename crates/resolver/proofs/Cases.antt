@@ -10,7 +10,7 @@ use lib.ListN.{length}
 use Rattle.plain.specs.Lists.{count}
 use Rattle.plain.proofs.Tests.{tested}
 use Rattle.resolver.specs.Outcome.{Outcome, outcomesOf, isResolved, isKnown}
-use Rattle.resolver.specs.Selection.{Answer, choiceOf, refusal, tie, choice, answerOn, answerOf, selected}
+use Rattle.resolver.specs.Selection.{Selected, choiceOf, refusal, tie, choice, answerOn, answerOf, selected}
 
 -- the tests, in their order
 abbrev pub noneResolved : List Outcome → Bool
@@ -51,16 +51,16 @@ which last buffer os =
     go (inr r) (inr k) (inr t) (inr s) = case-0 r k t s
 
 -- an answer's number and count
-abbrev pub toldBy : Answer → ℕ × ℕ
+abbrev pub toldBy : Selected → ℕ × ℕ
 toldBy a = (a .number, a .count)
 
 -- the buffer that it leaves
-abbrev pub leftBy : Answer → List ℕ
+abbrev pub leftBy : Selected → List ℕ
 leftBy a = a .buffer
 
 module _ (ws : List ℕ) (last : Bool) (buffer : List ℕ) (os : List Outcome) where
   -- the answer in each case
-  abbrev pub answer-in : Case last buffer os → Answer
+  abbrev pub answer-in : Case last buffer os → Selected
   answer-in (case-11 r) = refusal ws buffer 11 0
   answer-in (case-12 r k) = refusal ws buffer 12 0
   answer-in (case-13 r k t) = tie buffer os

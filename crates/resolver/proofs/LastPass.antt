@@ -9,13 +9,14 @@ use Prim.Native.Nat.{ℕ, _≤_, _<_}
 use native.Mathlib.Omega.{arith}
 use borrow.Author.Tests.{ltb-false, le-ltb, eqb-false, ne-eqb}
 use lib.ListN.{length, getD, set}
+use Rattle.plain.specs.Buffers.{atStart}
 use Rattle.resolver.specs.Outcome.{Outcome, outcomesOf, isResolved, isKnown}
 use Rattle.resolver.specs.Outcome.Outcome.{unresolved}
-use Rattle.resolver.specs.Selection.{Answer, choiceOf, writtenTo, answerOn, selected, selectionSays, answered}
+use Rattle.resolver.specs.Selection.{Selected, choiceOf, answerOn, selected, selectionSays, answered}
 use Rattle.resolver.specs.LastPass.{OnlyLeast, LastPass, OnLastPass}
 use Rattle.resolver.specs.declared.instruction.Selection.{Selection}
 use Rattle.resolver.proofs.Words.{sized-known}
-use Rattle.resolver.proofs.Passed.{count-at}
+use Rattle.plain.proofs.Passed.{count-at}
 use Rattle.resolver.proofs.Cases.{Case, noneKnown, isTied, which, toldBy, leftBy, answer-by, on-outcomes}
 use Rattle.resolver.proofs.Cases.Case.{case-11, case-12, case-13, case-14, case-0}
 use Rattle.resolver.proofs.OnlyLeast.{some-chosen, chosen-alone, alone-chosen}
@@ -27,7 +28,7 @@ alone (k ∷ []) i there short = (k, refl)
 alone (k ∷ l ∷ is) i there short = absurd (omega arith)
 
 -- one index at the start of a buffer with room
-one-written : (buffer : List ℕ) (i : ℕ) → 0 < length buffer → writtenTo buffer (i ∷ []) ≡ set buffer 0 i
+one-written : (buffer : List ℕ) (i : ℕ) → 0 < length buffer → atStart (i ∷ []) buffer ≡ set buffer 0 i
 one-written [] i room = absurd (omega arith)
 one-written (b ∷ buffer) i room = refl
 
@@ -64,8 +65,8 @@ module _
   answer-is : answered r words after ≡ answerOn ws true buffer os
   answer-is = answer ∙ rw (on-last, on-outcomes ws true buffer os accepted)
 
-  number-of : {a : Answer} → answerOn ws true buffer os ≡ a → selectionSays r .0 ≡ a .number
-  number-of e = ap (λ (a : Answer). a .number) (answer-is ∙ e)
+  number-of : {a : Selected} → answerOn ws true buffer os ≡ a → selectionSays r .0 ≡ a .number
+  number-of e = ap (λ (a : Selected). a .number) (answer-is ∙ e)
 
   -- what the promise of the whole call says of the last pass
   pub last-pass : LastPass os buffer r after

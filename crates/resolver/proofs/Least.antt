@@ -21,7 +21,7 @@ use Rattle.resolver.specs.Outcome.Outcome.{unresolved}
 use Rattle.resolver.specs.Selection.{lesser, leastSize, sameSize, hasSize}
 use Rattle.resolver.specs.LastPass.{sizeAt}
 use Rattle.resolver.specs.Passes.{orMore, Smallest}
-use Rattle.resolver.proofs.Passed.{map-more, count-more, count-none, none-at}
+use Rattle.plain.proofs.Passed.{map-more, count-more, count-none, none-at}
 use Rattle.resolver.proofs.Words.{known-size, small-size, no-size, size-known}
 
 -- sizes that are the same are known

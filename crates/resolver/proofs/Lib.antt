@@ -1,9 +1,6 @@
 pub mod Words
-pub mod Passed
 pub mod Tally
-pub mod Kept
 pub mod Least
-pub mod Replaced
 pub mod Written
 pub mod Marks
 pub mod Cases

@@ -10,7 +10,7 @@ use Rattle.plain.proofs.Tests.{or-false-left, or-false-right}
 use Rattle.resolver.specs.Outcome.{outcomeOf, wordOf, isBad, isGuess, asGuess}
 use Rattle.resolver.specs.Selection.{marked}
 use Rattle.resolver.specs.Passes.{markedWord}
-use Rattle.resolver.proofs.Passed.{some-counted}
+use Rattle.plain.proofs.Passed.{some-counted}
 use Rattle.resolver.proofs.Words.{word-of-outcome, marked-word}
 
 -- what holds of no words, and with one word more that is not bad, holds of words of which none is bad

@@ -15,7 +15,7 @@ use Rattle.resolver.specs.Outcome.Outcome.{unresolved}
 use Rattle.resolver.specs.Selection.{leastSize, indicesOf, choiceOf}
 use Rattle.resolver.specs.LastPass.{sizeAt, OnlyLeast}
 use Rattle.resolver.specs.Passes.{orMore}
-use Rattle.resolver.proofs.Kept.{kept-all, kept-only, one-kept}
+use Rattle.plain.proofs.Kept.{kept-all, kept-only, one-kept}
 use Rattle.resolver.proofs.Least.{has-true, has-same, least-at-most, least-attained, least-known}
 
 -- an outcome with a size is in the list

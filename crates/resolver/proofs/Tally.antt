@@ -10,7 +10,7 @@ use lib.Seq.{take-all}
 use Rattle.plain.specs.Lists.{count}
 use Rattle.resolver.specs.Outcome.{outcomeOf, isBad, isGuess, isResolved, isKnown}
 use Rattle.resolver.specs.Passes.{Tallied}
-use Rattle.resolver.proofs.Passed.{at-most-one, counted-word, counted-outcome}
+use Rattle.plain.proofs.Passed.{at-most-one, counted-number, counted-image}
 
 -- i words are passed
 pub record Judging (ws : List ℕ) (i bad resolved known guesses : ℕ) : Type 0 where
@@ -38,10 +38,10 @@ module _ {ws : List ℕ} {i bad resolved known guesses : ℕ} (before : Judging 
       record {
         within = omega arith;
         tally = record {
-          bads = counted-word ws more isBad (counts .bads) is-b;
-          resolveds = counted-outcome ws more isResolved (counts .resolveds) is-r;
-          knowns = counted-outcome ws more isKnown (counts .knowns) is-k;
-          guessings = counted-outcome ws more isGuess (counts .guessings) is-g;
+          bads = counted-number ws more isBad (counts .bads) is-b;
+          resolveds = counted-image ws more outcomeOf isResolved (counts .resolveds) is-r;
+          knowns = counted-image ws more outcomeOf isKnown (counts .knowns) is-k;
+          guessings = counted-image ws more outcomeOf isGuess (counts .guessings) is-g;
         };
         most = omega (arith, before .most, at-most-one b, at-most-one r, at-most-one k, at-most-one g);
       }

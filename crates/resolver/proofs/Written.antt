@@ -9,16 +9,17 @@ use native.Mathlib.Numerals.{add-one}
 use native.Mathlib.Omega.{arith}
 use lib.ListN.{length, getD, set, length-append, length-set, length-map, List·getD-map}
 use lib.Seq.{drop-cons, set-at}
+use Rattle.plain.specs.Buffers.{atStart}
 use Rattle.plain.specs.Lists.{range, keepIf}
 use Rattle.resolver.specs.Outcome.{ofKind, outcomeOf}
 use Rattle.resolver.specs.Outcome.Outcome.{unresolved}
-use Rattle.resolver.specs.Selection.{hasSize, indicesOf, writtenTo}
-use Rattle.resolver.proofs.Kept.{kept, kept-in, kept-out, kept-grows}
+use Rattle.resolver.specs.Selection.{hasSize, indicesOf}
+use Rattle.plain.proofs.Kept.{kept, kept-in, kept-out, kept-grows}
 
 -- one index more at the end of those written
 write-next :
     (buffer indices : List ℕ) (v : ℕ) → length indices < length buffer →
-    set (writtenTo buffer indices) (length indices) v ≡ writtenTo buffer (indices ++ (v ∷ []))
+    set (atStart indices buffer) (length indices) v ≡ atStart (indices ++ (v ∷ [])) buffer
 write-next buffer indices v room =
     rw (drop-cons buffer (length indices) 0 room, length-append)
     (set-at indices _ _ v (length indices) refl ∙ rw (append-assoc, add-one))
@@ -38,7 +39,7 @@ pub record Writing (ws : List ℕ) (size : Option ℕ) (buffer : List ℕ) (i pl
   pub room : length (indicesOf size (map outcomeOf ws)) ≤ length buffer
   pub long : length now ≡ length buffer
   pub place-is : place ≡ length (indicesBelow ws size i)
-  pub now-is : now ≡ writtenTo buffer (indicesBelow ws size i)
+  pub now-is : now ≡ atStart (indicesBelow ws size i) buffer
 
 pub none-written :
     (ws : List ℕ) (size : Option ℕ) (buffer : List ℕ) → length (indicesOf size (map outcomeOf ws)) ≤ length buffer →
@@ -61,12 +62,12 @@ module _
     {ws : List ℕ} {size : Option ℕ} {buffer : List ℕ} {i place : ℕ} {now : List ℕ}
     (before : Writing ws size buffer i place now) where
   -- after the last turn every index is written
-  pub all-written : length ws ≤ i → now ≡ writtenTo buffer (indicesOf size (map outcomeOf ws))
+  pub all-written : length ws ≤ i → now ≡ atStart (indicesOf size (map outcomeOf ws)) buffer
   all-written past =
       let end : i ≡ length ws = omega (arith, before .within) in
       before .now-is
-      ∙ ap (λ (n : ℕ). writtenTo buffer (indicesBelow ws size n)) end
-      ∙ ap (writtenTo buffer) (all-indices ws size)
+      ∙ ap (λ (n : ℕ). atStart (indicesBelow ws size n) buffer) end
+      ∙ ap (λ (is : List ℕ). atStart is buffer) (all-indices ws size)
 
   module _ (more : i < length ws) {test : Bool} (answer : test ≡ hasSize size (outcomeOf (getD ws i 0))) where
     at-index : hasSize size (getD (map outcomeOf ws) i unresolved) ≡ test

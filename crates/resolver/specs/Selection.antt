@@ -4,12 +4,13 @@
 -- the indices are written as 16-bit numbers at the buffer's start, the rest unchanged, and the count returned. Marks
 -- are made on 0 and 13 only."
 use mathlib.Core.Bool.{Bool, false, _&&_}
-use mathlib.Core.List.{List, [], _∷_, _++_, map}
+use mathlib.Core.List.{List, [], _∷_, map}
 use mathlib.Core.Option.{Option, none, some}
 use Prim.Native.Nat.{ℕ, min}
 use lib.Dec.{ltb, eqb}
-use lib.ListN.{length, getD, drop}
+use lib.ListN.{length, getD}
 use Rattle.plain.specs.Choice.{select}
+use Rattle.plain.specs.Buffers.{atStart}
 use Rattle.plain.specs.Lists.{range, keepIf, some-of, count}
 use Rattle.resolver.specs.Outcome.{Outcome, outcomesOf, wordOf, isGuess, isResolved, isKnown, sizeOf, asGuess}
 use Rattle.resolver.specs.Outcome.Outcome.{unresolved}
@@ -51,37 +52,33 @@ unfoldable pub choiceOf : List Outcome → List ℕ
 choiceOf os = indicesOf (leastSize os) os
 
 -- what a call returns, and the words and the buffer that it leaves
-pub record Answer : Type 0 where
+pub record Selected : Type 0 where
   pub number : ℕ
   pub count : ℕ
   pub words : List ℕ
   pub buffer : List ℕ
 
--- indices at the buffer's start, the rest unchanged
-abbrev pub writtenTo : List ℕ → List ℕ → List ℕ
-writtenTo buffer indices = indices ++ drop (length indices) buffer
-
 -- an answer that leaves the words and the buffer
-abbrev pub refusal : List ℕ → List ℕ → ℕ → ℕ → Answer
+abbrev pub refusal : List ℕ → List ℕ → ℕ → ℕ → Selected
 refusal words buffer number count = record { number = number; count = count; words = words; buffer = buffer }
 
 -- 13: a tie, marked
-abbrev pub tie : List ℕ → List Outcome → Answer
+abbrev pub tie : List ℕ → List Outcome → Selected
 tie buffer os = record { number = 13; count = length (choiceOf os); words = map wordOf (marked os); buffer = buffer }
 
 -- 0: the choice, marked and written
-abbrev pub choice : List ℕ → List Outcome → Answer
+abbrev pub choice : List ℕ → List Outcome → Selected
 choice buffer os =
     record {
       number = 0;
       count = length (choiceOf os);
       words = map wordOf (marked os);
-      buffer = writtenTo buffer (choiceOf os);
+      buffer = atStart (choiceOf os) buffer;
     }
 
 -- the answer on a list of outcomes: in this order, 11 none resolved, 12 none known, 13 two or more on the last pass,
 -- 14 a choice longer than its buffer, 0
-unfoldable pub answerOn : List ℕ → Bool → List ℕ → List Outcome → Answer
+unfoldable pub answerOn : List ℕ → Bool → List ℕ → List Outcome → Selected
 answerOn words last buffer os =
     select (eqb (count isResolved os) 0) (refusal words buffer 11 0)
     (select (eqb (count isKnown os) 0) (refusal words buffer 12 0)
@@ -90,12 +87,12 @@ answerOn words last buffer os =
     (choice buffer os))))
 
 -- the answer on words that are a list of outcomes, or 10: a bad list
-unfoldable pub answerOf : List ℕ → Bool → List ℕ → Option (List Outcome) → Answer
+unfoldable pub answerOf : List ℕ → Bool → List ℕ → Option (List Outcome) → Selected
 answerOf words last buffer none = refusal words buffer 10 0
 answerOf words last buffer (some os) = answerOn words last buffer os
 
 -- the whole call, on the words, whether this is the last pass, and the buffer
-unfoldable pub selected : List ℕ → Bool → List ℕ → Answer
+unfoldable pub selected : List ℕ → Bool → List ℕ → Selected
 selected words last buffer = answerOf words last buffer (outcomesOf words)
 
 -- the number and the count that each case of the enum stands for
@@ -108,6 +105,6 @@ selectionSays (Tied n) = (13, n)
 selectionSays (NoRoom n) = (14, n)
 
 -- what a call answers that returns r and leaves these words and this buffer
-abbrev pub answered : Selection → List ℕ → List ℕ → Answer
+abbrev pub answered : Selection → List ℕ → List ℕ → Selected
 answered r words buffer =
     record { number = selectionSays r .0; count = selectionSays r .1; words = words; buffer = buffer }

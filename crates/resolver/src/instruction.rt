@@ -14,9 +14,10 @@ ghost use mathlib.Core.List.{map};
 ghost use mathlib.Core.Option.{some};
 ghost use Prim.Native.Nat.{_≤_};
 ghost use lib.ListN.{length};
+ghost use Rattle.plain.specs.Buffers.{atStart};
 ghost use Rattle.plain.specs.Lists.{some-of, count};
 ghost use Rattle.resolver.specs.Outcome.{outcomeOf, wordOf, isBad, isGuess};
-ghost use Rattle.resolver.specs.Selection.{marked, indicesOf, writtenTo, answered, selected};
+ghost use Rattle.resolver.specs.Selection.{marked, indicesOf, answered, selected};
 ghost use Rattle.resolver.specs.LastPass.{OnLastPass};
 ghost use Rattle.resolver.specs.Passes.{Tallied, Smallest, markedWord};
 
@@ -126,7 +127,7 @@ fn write(words: &[u32], size: u32, chosen: &mut [u16])
     requires few { ⌜ length (now words) ≤ 4096 ⌝ }
     requires room { ⌜ length (indicesOf (some size) (map outcomeOf (now words))) ≤ length (now chosen) ⌝ }
     ensures written { λ _.
-        ⌜ now (chosen .exit) ≡ writtenTo (now (chosen .entry)) (indicesOf (some size) (map outcomeOf (now (words .entry)))) ⌝ }
+        ⌜ now (chosen .exit) ≡ atStart (indicesOf (some size) (map outcomeOf (now (words .entry)))) (now (chosen .entry)) ⌝ }
 {
     let mut at = 0;
     let mut i = 0;

@@ -18,8 +18,9 @@ use Rattle.plain.specs.Choice.{select}
 use Rattle.plain.specs.Lists.{some-of, count}
 use Rattle.plain.proofs.Tests.{tested, not-both, or-false-left, or-false-right}
 use Rattle.plain.proofs.Lists.{some-of-append, count-append}
+use Rattle.token.specs.Token.{isSolid}
 use Rattle.syntax.specs.Walker.{byteAt}
-use Rattle.syntax.specs.Cut.{isSolid, isWanted, isStray, nesting, passedTo, CutAt, Cuts, takenIn, turnOf, follow, searched, fresh, cutFrom, cut}
+use Rattle.syntax.specs.Cut.{isWanted, isStray, nesting, passedTo, CutAt, Cuts, takenIn, turnOf, follow, searched, fresh, cutFrom, cut}
 use Rattle.syntax.specs.declared.walker.Walker.{Walker}
 use Rattle.syntax.specs.declared.walker.Search.{Search}
 use Rattle.syntax.specs.declared.walker.Turn.{Turn}

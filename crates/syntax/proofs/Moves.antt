@@ -7,8 +7,8 @@ use Prim.Native.Nat.{ℕ, _≤_, _<_}
 use lib.Dec.{ltb}
 use borrow.Author.Tests.{lt-ltb, le-ltb, le-leb, lt-leb}
 use Rattle.plain.specs.Choice.{select}
-use Rattle.syntax.specs.Token.{isWhitespace, sameLetter}
-use Rattle.syntax.specs.Walker.{byteAt, over, usefulFrom, useful, past, expectChar, gap, expectWhitespace}
+use Rattle.token.specs.Token.{isWhitespace, sameLetter}
+use Rattle.syntax.specs.Walker.{byteAt, over, usefulFrom, useful, pastPlace, expectChar, gap, expectWhitespace}
 use Rattle.syntax.specs.declared.walker.Walker.{Walker}
 
 module _ (line : List ℕ) (v w : Walker) (held : v ≡ w) where
@@ -24,14 +24,14 @@ module _ (line : List ℕ) (v w : Walker) (held : v ≡ w) where
   gap-byte t h e = tested-gap t (ap (λ (b : Bool). b || isWhitespace (byteAt line (v .cursor))) (lt-leb (v .limit) (v .cursor) h) ∙ e)
 
   module _ (x u : ℕ) (found : u ≡ usefulFrom line (v .cursor) (v .limit)) where
-    judged : (t : Bool) → (ltb u (v .limit) && sameLetter (byteAt line u) x) ≡ t → select t (true, past u v) (false, v) ≡ expectChar line x w
+    judged : (t : Bool) → (ltb u (v .limit) && sameLetter (byteAt line u) x) ≡ t → select t (true, pastPlace u v) (false, v) ≡ expectChar line x w
     unfolding expectChar useful
     judged t e =
-        ap (λ (b : Bool). select b (true, past u v) (false, v)) (sym e)
-        ∙ ap (λ (p : ℕ). select (ltb p (v .limit) && sameLetter (byteAt line p) x) (true, past p v) (false, v)) found
+        ap (λ (b : Bool). select b (true, pastPlace u v) (false, v)) (sym e)
+        ∙ ap (λ (p : ℕ). select (ltb p (v .limit) && sameLetter (byteAt line p) x) (true, pastPlace p v) (false, v)) found
         ∙ ap (expectChar line x) held
 
-    pub expect-past : u < v .limit → sameLetter (byteAt line u) x ≡ true → (true, past u v) ≡ expectChar line x w
+    pub expect-past : u < v .limit → sameLetter (byteAt line u) x ≡ true → (true, pastPlace u v) ≡ expectChar line x w
     expect-past h e = judged true (ap (λ (b : Bool). b && sameLetter (byteAt line u) x) (lt-ltb u (v .limit) h) ∙ e)
 
     pub expect-other : u < v .limit → sameLetter (byteAt line u) x ≡ false → (false, v) ≡ expectChar line x w

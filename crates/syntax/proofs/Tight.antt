@@ -1,23 +1,27 @@
--- Any two answers that a promise of this crate allows are equal.
+-- How tight the promises are: any two answers that a function's contract allows on the same arguments are equal. Each law is
+-- stated over the contract itself, `Post`, so a weaker contract breaks it.
 use mathlib.Core.Path.{_≡_, refl, ap}
 use mathlib.Core.Bool.{Bool, true≢false, false≢true}
-use mathlib.Core.List.{List}
 use mathlib.Core.Option.{Option·some-inj, Option·none-ne-some, Option·some-ne-none}
 use Prim.Native.Nat.{ℕ}
-use native.Mathlib.Omega.{arith}
-use lib.ListN.{length}
 use Rattle.plain.proofs.Answers.{one-answer, one-told}
-use Rattle.syntax.specs.Token.{isWhitespace, lowered, sameLetter}
-use Rattle.syntax.specs.Walker.{held, over, movedTo, limited, useful, stepSays, expectChar, expectWhitespace}
-use Rattle.syntax.specs.Cut.{cutSays, cut}
-use Rattle.syntax.specs.Line.{lineSays, lineVerdict}
+use Rattle.syntax.specs.Walker.{stepSays}
+use Rattle.syntax.specs.Cut.{cutSays}
 use Rattle.syntax.specs.declared.walker.Walker.{Walker}
 use Rattle.syntax.specs.declared.walker.Step.{Step}
 use Rattle.syntax.specs.declared.walker.Step.the-variants as Step
 use Rattle.syntax.specs.declared.walker.Lookahead.{Lookahead}
 use Rattle.syntax.specs.declared.walker.Lookahead.the-variants as Lookahead
-use Rattle.syntax.specs.declared.line.LineCheck.{LineCheck}
-use Rattle.syntax.specs.declared.line.LineCheck.the-variants as LineCheck
+use Rattle.syntax.proofs.walker.Walker.new.Reads as new
+use Rattle.syntax.proofs.walker.Walker.is_over.Reads as is-over
+use Rattle.syntax.proofs.walker.Walker.get_cursor_index.Reads as get-cursor-index
+use Rattle.syntax.proofs.walker.Walker.get_cursor_limit.Reads as get-cursor-limit
+use Rattle.syntax.proofs.walker.Walker.set_cursor_index.Reads as set-cursor-index
+use Rattle.syntax.proofs.walker.Walker.set_cursor_limit.Reads as set-cursor-limit
+use Rattle.syntax.proofs.walker.Walker.next_useful_index.Reads as next-useful-index
+use Rattle.syntax.proofs.walker.Walker.maybe_expect_char.Reads as maybe-expect-char
+use Rattle.syntax.proofs.walker.Walker.maybe_expect_whitespace.Reads as maybe-expect-whitespace
+use Rattle.syntax.proofs.walker.Walker.find_lookahead_char_index.Reads as find-lookahead-char-index
 
 -- what the cases of an answer say tells them apart
 
@@ -33,54 +37,34 @@ cuts-apart (Lookahead.At p) Lookahead.Nothing e = absurd (Option·some-ne-none p
 cuts-apart Lookahead.Nothing (Lookahead.At q) e = absurd (Option·none-ne-some q e)
 cuts-apart Lookahead.Nothing Lookahead.Nothing e = refl
 
-lines-apart : (r s : LineCheck) → lineSays r ≡ lineSays s → r ≡ s
-lines-apart LineCheck.Good LineCheck.Good e = refl
-lines-apart LineCheck.Good (LineCheck.Bad q) e = let z : _≡_ {A = ℕ} 0 3 = ap (λ (p : ℕ × ℕ). p .0) e in absurd (omega arith)
-lines-apart (LineCheck.Bad p) LineCheck.Good e = let z : _≡_ {A = ℕ} 3 0 = ap (λ (p : ℕ × ℕ). p .0) e in absurd (omega arith)
-lines-apart (LineCheck.Bad p) (LineCheck.Bad q) e = ap (λ (p : ℕ × ℕ). LineCheck.Bad (p .1)) e
-
 -- the promises
 
-pub is-whitespace-tight : (b : ℕ) (r s : Bool) → r ≡ isWhitespace b → s ≡ isWhitespace b → r ≡ s
-is-whitespace-tight b r s = one-answer
+pub new-tight : (κs a : _) (r s : Walker) (x y : _) → new.Post κs a r x → new.Post κs a s y → r ≡ s
+new-tight κs a r s x y = λ p q i. record { cursor = one-answer (p .0) (q .0) i; limit = one-answer (p .1) (q .1) i }
 
-pub to-ascii-lowercase-tight : (b r s : ℕ) → r ≡ lowered b → s ≡ lowered b → r ≡ s
-to-ascii-lowercase-tight b r s = one-answer
+pub is-over-tight : (κs a : _) (r s : Bool) (x y : _) → is-over.Post κs a r x → is-over.Post κs a s y → r ≡ s
+is-over-tight κs a r s x y = one-answer
 
-pub eq-ignore-ascii-case-tight : (a b : ℕ) (r s : Bool) → r ≡ sameLetter a b → s ≡ sameLetter a b → r ≡ s
-eq-ignore-ascii-case-tight a b r s = one-answer
+pub get-cursor-index-tight : (κs a : _) (r s : ℕ) (x y : _) → get-cursor-index.Post κs a r x → get-cursor-index.Post κs a s y → r ≡ s
+get-cursor-index-tight κs a r s x y = one-answer
 
-module _ (line : List ℕ) where
-  pub new-tight : (r s : Walker) → (r .cursor ≡ 0) × (r .limit ≡ length line) → (s .cursor ≡ 0) × (s .limit ≡ length line) → r ≡ s
-  new-tight r s p q = λ i. record { cursor = one-answer (p .0) (q .0) i; limit = one-answer (p .1) (q .1) i }
+pub get-cursor-limit-tight : (κs a : _) (r s : ℕ) (x y : _) → get-cursor-limit.Post κs a r x → get-cursor-limit.Post κs a s y → r ≡ s
+get-cursor-limit-tight κs a r s x y = one-answer
 
-  module _ (w : Walker) where
-    pub is-over-tight : (r s : Bool) → r ≡ over (held line w) → s ≡ over (held line w) → r ≡ s
-    is-over-tight r s = one-answer
+pub set-cursor-index-tight : (κs a : _) (r s : Walker) (x y : _) → set-cursor-index.Post κs a r x → set-cursor-index.Post κs a s y → r ≡ s
+set-cursor-index-tight κs a r s x y = one-answer
 
-    pub get-cursor-index-tight : (r s : ℕ) → r ≡ w .cursor → s ≡ w .cursor → r ≡ s
-    get-cursor-index-tight r s = one-answer
+pub set-cursor-limit-tight : (κs a : _) (r s : Walker) (x y : _) → set-cursor-limit.Post κs a r x → set-cursor-limit.Post κs a s y → r ≡ s
+set-cursor-limit-tight κs a r s x y = one-answer
 
-    pub get-cursor-limit-tight : (r s : ℕ) → r ≡ w .limit → s ≡ w .limit → r ≡ s
-    get-cursor-limit-tight r s = one-answer
+pub next-useful-index-tight : (κs a : _) (r s : ℕ) (x y : _) → next-useful-index.Post κs a r x → next-useful-index.Post κs a s y → r ≡ s
+next-useful-index-tight κs a r s x y = one-answer
 
-    pub set-cursor-index-tight : (at : ℕ) (r s : Walker) → r ≡ movedTo line at (held line w) → s ≡ movedTo line at (held line w) → r ≡ s
-    set-cursor-index-tight at r s = one-answer
+pub maybe-expect-char-tight : (κs a : _) (r s : Step) (x y : _) → maybe-expect-char.Post κs a r x → maybe-expect-char.Post κs a s y → r ≡ s
+maybe-expect-char-tight κs a r s x y = one-told stepSays steps-apart _ r s
 
-    pub set-cursor-limit-tight : (end : ℕ) (r s : Walker) → r ≡ limited line end (held line w) → s ≡ limited line end (held line w) → r ≡ s
-    set-cursor-limit-tight end r s = one-answer
+pub maybe-expect-whitespace-tight : (κs a : _) (r s : Step) (x y : _) → maybe-expect-whitespace.Post κs a r x → maybe-expect-whitespace.Post κs a s y → r ≡ s
+maybe-expect-whitespace-tight κs a r s x y = one-told stepSays steps-apart _ r s
 
-    pub next-useful-index-tight : (r s : ℕ) → r ≡ useful line (held line w) → s ≡ useful line (held line w) → r ≡ s
-    next-useful-index-tight r s = one-answer
-
-    pub maybe-expect-char-tight : (x : ℕ) (r s : Step) → stepSays r ≡ expectChar line x (held line w) → stepSays s ≡ expectChar line x (held line w) → r ≡ s
-    maybe-expect-char-tight x = one-told stepSays steps-apart (expectChar line x (held line w))
-
-    pub maybe-expect-whitespace-tight : (r s : Step) → stepSays r ≡ expectWhitespace line (held line w) → stepSays s ≡ expectWhitespace line (held line w) → r ≡ s
-    maybe-expect-whitespace-tight = one-told stepSays steps-apart (expectWhitespace line (held line w))
-
-    pub find-lookahead-char-index-tight : (x : ℕ) (r s : Lookahead) → cutSays r ≡ cut line x (held line w) → cutSays s ≡ cut line x (held line w) → r ≡ s
-    find-lookahead-char-index-tight x = one-told cutSays cuts-apart (cut line x (held line w))
-
-  pub check-line-tight : (r s : LineCheck) → lineSays r ≡ lineVerdict line → lineSays s ≡ lineVerdict line → r ≡ s
-  check-line-tight = one-told lineSays lines-apart (lineVerdict line)
+pub find-lookahead-char-index-tight : (κs a : _) (r s : Lookahead) (x y : _) → find-lookahead-char-index.Post κs a r x → find-lookahead-char-index.Post κs a s y → r ≡ s
+find-lookahead-char-index-tight κs a r s x y = one-told cutSays cuts-apart _ r s

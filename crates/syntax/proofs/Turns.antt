@@ -3,8 +3,8 @@ use mathlib.Core.Path.{_≡_}
 use mathlib.Core.Bool.{Bool, true, false, _||_}
 use Prim.Native.Nat.{ℕ, _+_, _-_}
 use borrow.Author.Tests.{eq-eqb, ne-eqb}
-use Rattle.syntax.specs.Token.{sameLetter}
-use Rattle.syntax.specs.Cut.{isSolid, isWanted, isStray, takenIn, turnOf}
+use Rattle.token.specs.Token.{isSolid, sameLetter}
+use Rattle.syntax.specs.Cut.{isWanted, isStray, takenIn, turnOf}
 use Rattle.syntax.specs.declared.walker.Search.{Search}
 use Rattle.syntax.specs.declared.walker.Turn.{Turn}
 use Rattle.syntax.specs.declared.walker.Turn.the-variants as Turn

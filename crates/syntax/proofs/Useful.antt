@@ -11,7 +11,7 @@ use lib.ListN.{length}
 use lib.Seq.{slice-empty, slice-cons}
 use Rattle.plain.specs.Choice.{select}
 use Rattle.plain.proofs.Tests.{tested, not-both}
-use Rattle.syntax.specs.Token.{isWhitespace}
+use Rattle.token.specs.Token.{isWhitespace}
 use Rattle.syntax.specs.Walker.{byteAt, held, movedTo, limited, UsefulPlace, skipped, usefulFrom, useful}
 use Rattle.syntax.specs.declared.walker.Walker.{Walker}
 

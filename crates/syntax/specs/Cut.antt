@@ -1,6 +1,6 @@
 -- The cut: where the line is limited for a parameter that a lookahead character follows.
 use mathlib.Core.Path.{_≡_}
-use mathlib.Core.Bool.{Bool, true, false, not, _&&_, _||_}
+use mathlib.Core.Bool.{Bool, true, false, _&&_, _||_}
 use mathlib.Core.List.{List, [], _∷_}
 use mathlib.Core.Option.{Option, none, some}
 use Prim.Native.Nat.{ℕ, suc, _+_, _-_, _≤_, _<_}
@@ -8,7 +8,7 @@ use lib.Dec.{eqb}
 use lib.Seq.{slice}
 use Rattle.plain.specs.Choice.{select}
 use Rattle.plain.specs.Lists.{some-of, count}
-use Rattle.syntax.specs.Token.{isWhitespace, sameLetter}
+use Rattle.token.specs.Token.{isSolid, sameLetter}
 use Rattle.syntax.specs.Walker.{byteAt}
 use Rattle.syntax.specs.declared.walker.Walker.{Walker}
 use Rattle.syntax.specs.declared.walker.Search.{Search}
@@ -26,9 +26,6 @@ unfoldable pub isStray : ℕ → Search → Bool
 isStray b s = eqb b 41 && eqb (s .parens) 0 || eqb b 125 && eqb (s .braces) 0
 
 -- Declared: what has passed from place c to before place i, by counting. Nesting is counted apart for ( ) and { }.
-abbrev pub isSolid : ℕ → Bool
-isSolid b = not (isWhitespace b)
-
 unfoldable pub nesting : ℕ → ℕ → List ℕ → ℕ
 nesting o e bs = count (λ b. eqb b o) bs - count (λ b. eqb b e) bs
 

@@ -1,4 +1,2 @@
-pub mod Token
 pub mod Walker
 pub mod Cut
-pub mod Line

@@ -8,7 +8,7 @@ use lib.Dec.{leb, ltb}
 use lib.ListN.{length, getD}
 use lib.Seq.{slice}
 use Rattle.plain.specs.Choice.{select}
-use Rattle.syntax.specs.Token.{isWhitespace, sameLetter}
+use Rattle.token.specs.Token.{isWhitespace, sameLetter}
 use Rattle.syntax.specs.declared.walker.Walker.{Walker}
 use Rattle.syntax.specs.declared.walker.Step.{Step}
 use Rattle.syntax.specs.declared.walker.Step.the-variants.{Past, Stayed}
@@ -55,15 +55,15 @@ unfoldable pub useful : List ℕ → Walker → ℕ
 useful line w = usefulFrom line (w .cursor) (w .limit)
 
 -- the walker past place p
-abbrev pub past : ℕ → Walker → Walker
-past p w = record { cursor = p + 1; limit = w .limit }
+abbrev pub pastPlace : ℕ → Walker → Walker
+pastPlace p w = record { cursor = p + 1; limit = w .limit }
 
 -- Exact part: the byte at the useful place, below the limit, equals the wanted one with ASCII case ignored; the
 -- cursor goes past it.
 unfoldable pub expectChar : List ℕ → ℕ → Walker → Bool × Walker
 expectChar line x w =
     select (ltb (useful line w) (w .limit) && sameLetter (byteAt line (useful line w)) x)
-    (true, past (useful line w) w)
+    (true, pastPlace (useful line w) w)
     (false, w)
 
 -- each answer's values: whether the byte was there, and the walker handed back

@@ -1,4 +1,2 @@
-// The reading of a line's bytes, from `src/syntax` of the Rust: byte classes, the walker, the line's check.
-pub mod line;
-pub mod token;
+// The reading of a line's bytes, from `src/syntax` of the Rust: the walker, its useful place and its cut. Nothing is refused.
 pub mod walker;

@@ -1,13 +1,13 @@
 // The walker: a cursor and a limit over a line that is lent beside it. From `src/syntax/walker.rs`, its cursor part.
 // A walker is a value, and every move hands back the moved one. At every move a limit past the line is first held
 // to the line's end, then a cursor past the limit to the limit, so no move refuses: any cursor, limit, line and byte.
-use crate::token;
 ghost use mathlib.Core.Path.{_≡_};
 ghost use mathlib.Core.Bool.{_||_};
 ghost use Prim.Native.Nat.{_+_, _<_, _≤_, _^_, min};
 ghost use lib.ListN.{length};
 ghost use Rattle.syntax.specs.Walker.{held, over, movedTo, limited, usefulFrom, useful, stepSays, expectChar, expectWhitespace};
-ghost use Rattle.syntax.specs.Cut.{isSolid, isWanted, fresh, turnOf, cutSays, cutFrom, cut};
+ghost use Rattle.token.specs.Token.{isSolid};
+ghost use Rattle.syntax.specs.Cut.{isWanted, fresh, turnOf, cutSays, cutFrom, cut};
 
 const OPEN_PAREN: u8 = 40;
 

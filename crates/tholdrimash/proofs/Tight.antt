@@ -6,7 +6,7 @@ use mathlib.Core.List.{List}
 use Prim.Native.Nat.{ℕ}
 use Rattle.plain.proofs.Answers.{one-answer}
 use Rattle.readings.specs.Call.{Told, scanCall, lookupCall}
-use Rattle.resolver.specs.Selection.{Answer, selected}
+use Rattle.resolver.specs.Selection.{Selected, selected}
 use Rattle.tholdrimash.specs.declared.TholdrimashAnswer.{TholdrimashAnswer}
 use Rattle.tholdrimash.specs.declared.TholdrimashSelection.{TholdrimashSelection}
 use Rattle.tholdrimash.specs.Interface.{told, chose}

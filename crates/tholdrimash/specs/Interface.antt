@@ -4,7 +4,7 @@ use mathlib.Core.Bool.{Bool}
 use mathlib.Core.List.{List}
 use Prim.Native.Nat.{ℕ}
 use Rattle.readings.specs.Call.{Told}
-use Rattle.resolver.specs.Selection.{Answer, selectionSays}
+use Rattle.resolver.specs.Selection.{Selected, selectionSays}
 use Rattle.resolver.specs.LastPass.{OnLastPass}
 use Rattle.resolver.specs.declared.instruction.Selection.{Selection}
 use Rattle.tholdrimash.specs.declared.TholdrimashAnswer.{TholdrimashAnswer}
@@ -15,7 +15,7 @@ abbrev pub told : TholdrimashAnswer → List ℕ → Told
 told r b = record { number = r .number; visits = r .visits; words = r .words; place = r .place; buffer = b }
 
 -- number and count, with the words and the buffer
-abbrev pub chose : TholdrimashSelection → List ℕ → List ℕ → Answer
+abbrev pub chose : TholdrimashSelection → List ℕ → List ℕ → Selected
 chose r w b = record { number = r .number; count = r .count; words = w; buffer = b }
 
 -- demand 3 for the last pass, of the case that these fields stand for

@@ -6,7 +6,7 @@ use mathlib.Core.List.{List, []}
 use Prim.Native.Nat.{ℕ}
 use lib.ListN.{length}
 use Rattle.plain.proofs.Answers.{one-answer}
-use Rattle.defs.specs.RuledefMap.{putAfter}
+use Rattle.plain.specs.Buffers.{putAfter}
 use Rattle.readings.specs.Tree.{sameTree}
 use Rattle.readings.specs.Answer.{exactCount, treeWords}
 use Rattle.readings.specs.Scene.{sceneOf}

@@ -8,7 +8,7 @@ use native.Mathlib.Nat.{add-zero}
 use native.Mathlib.Omega.{arith}
 use lib.ListN.{length, take, drop, set, length-append, take-append-drop}
 use lib.Seq.{length-take-le, take-at, drop-at, drop-drop, sets-eq}
-use Rattle.defs.specs.RuledefMap.{putAfter}
+use Rattle.plain.specs.Buffers.{putAfter}
 use Rattle.readings.specs.Tree.{Tree, Args, end, expr, nest}
 use Rattle.readings.specs.Answer.{argCount, treeWords, argWords}
 use Rattle.pool.specs.Meaning.{Entry, treeAt, Heads, Lasts}

@@ -10,7 +10,7 @@ ghost use mathlib.Core.List.{[], _∷_};
 ghost use Prim.Native.Nat.{_+_, _≤_, _<_};
 ghost use lib.ListN.{length};
 ghost use Rattle.defs.specs.Table.{ruleParts};
-ghost use Rattle.defs.specs.RuledefMap.{putAfter};
+ghost use Rattle.plain.specs.Buffers.{putAfter};
 ghost use Rattle.readings.specs.Tree.{sameTree, sameArgs};
 ghost use Rattle.readings.specs.Answer.{isExact, exactParts, exactCount, nestedCount, argCount, treeWords, argWords};
 ghost use Rattle.readings.specs.Scene.{sceneOf};

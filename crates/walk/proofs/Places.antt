@@ -11,7 +11,7 @@ use lib.ListN.{length}
 use borrow.Author.Tests.{ltb-true}
 use Rattle.plain.specs.Choice.{select}
 use Rattle.plain.proofs.Tests.{and-left}
-use Rattle.syntax.specs.Token.{sameLetter}
+use Rattle.token.specs.Token.{sameLetter}
 use Rattle.syntax.specs.Walker.{byteAt, held, useful, stepSays, expectChar, expectWhitespace}
 use Rattle.syntax.specs.declared.walker.Walker.{Walker}
 use Rattle.syntax.specs.declared.walker.Step.{Step}

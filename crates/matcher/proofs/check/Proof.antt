@@ -6,9 +6,9 @@ use Rattle.matcher.proofs.check.Statement.{statement}
 use Rattle.matcher.proofs.check.Tie as tie
 use Rattle.matcher.proofs.check.Reads as reads
 use Rattle.matcher.proofs.check.Lts as lts
-use Rattle.defs.proofs.ruledef.check_table.Reads as check-table-reads
+use Rattle.acceptance.proofs.check_table.Reads as check-table-reads
 use Rattle.extents.proofs.check_sheet.Reads as check-sheet-reads
-use Rattle.syntax.proofs.line.check_line.Reads as check-line-reads
+use Rattle.line.proofs.check_line.Reads as check-line-reads
 
 -- src/lib.rt:72:9
 check-table-requires : tie.Need-check-table-requires

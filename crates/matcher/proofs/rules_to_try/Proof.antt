@@ -4,9 +4,9 @@ use Rattle.matcher.proofs.rules_to_try.Statement.{statement}
 use Rattle.matcher.proofs.rules_to_try.Tie as tie
 use Rattle.matcher.proofs.rules_to_try.Reads as reads
 use Rattle.matcher.proofs.rules_to_try.Lts as lts
-use Rattle.defs.proofs.ruledef_map.parse_prefix.Reads as parse-prefix-reads
-use Rattle.defs.proofs.ruledef_map.query_prefixed.Reads as query-prefixed-reads
-use Rattle.defs.proofs.ruledef_map.top_rules.Reads as top-rules-reads
+use Rattle.ruledef_map.proofs.parse_prefix.Reads as parse-prefix-reads
+use Rattle.ruledef_map.proofs.query_prefixed.Reads as query-prefixed-reads
+use Rattle.ruledef_map.proofs.top_rules.Reads as top-rules-reads
 
 -- src/lib.rt:104:54
 enum-told : tie.Need-enum-told

@@ -4,8 +4,8 @@ use Rattle.probe.proofs.probe_query_prefixed.Statement.{statement}
 use Rattle.probe.proofs.probe_query_prefixed.Tie as tie
 use Rattle.probe.proofs.probe_query_prefixed.Reads as reads
 use Rattle.probe.proofs.probe_query_prefixed.Lts as lts
-use Rattle.defs.proofs.ruledef_map.parse_prefix.Reads as parse-prefix-reads
-use Rattle.defs.proofs.ruledef_map.query_prefixed.Reads as query-prefixed-reads
+use Rattle.ruledef_map.proofs.parse_prefix.Reads as parse-prefix-reads
+use Rattle.ruledef_map.proofs.query_prefixed.Reads as query-prefixed-reads
 
 -- src/lib.rt:136:9
 parse-prefix-requires : tie.Need-parse-prefix-requires

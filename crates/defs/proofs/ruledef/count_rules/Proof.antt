@@ -17,20 +17,20 @@ Inv-loop table counts₀ rules rule₀ counts rule = (counts ≡ listed 33 (tall
 abbrev μ-loop : tie.MeasureT-loop
 μ-loop table counts₀ rules rule₀ counts rule = rules - rule
 
-word-requires : tie.Need-word-requires Inv-loop μ-loop
-word-requires c κs = search needs
+word-at-requires : tie.Need-word-at-requires Inv-loop μ-loop
+word-at-requires c κs = search needs
 
 loop-holds : tie.Need-loop-holds Inv-loop μ-loop
 loop-holds c = (c .before .before .before .pre, (listed-33 _ _ (c .before .before .before .pre), omega arith))
 
 cast-loop : tie.Need-cast-loop Inv-loop μ-loop
-cast-loop c = omega (arith, c .before .word .ensures .1)
+cast-loop c = omega (arith, c .before .word-at .ensures .1)
 
-field-requires : tie.Need-field-requires Inv-loop μ-loop
-field-requires c κs = search needs
+field-at-requires : tie.Need-field-at-requires Inv-loop μ-loop
+field-at-requires c κs = search needs
 
 add-rule : tie.Need-add-rule Inv-loop μ-loop
-add-rule c = omega (arith, c .before .before .before .word .ensures .1)
+add-rule c = omega (arith, c .before .before .before .word-at .ensures .1)
 
 add-counts : tie.Need-add-counts Inv-loop μ-loop
 add-counts c = omega arith
@@ -42,7 +42,7 @@ slice-read-counts : tie.Need-slice-read-counts Inv-loop μ-loop
 slice-read-counts c = omega arith
 
 add-counts-2 : tie.Need-add-counts-2 Inv-loop μ-loop
-add-counts-2 c = omega (arith, c .before .before .before .before .before .word .ensures .1, tally-most _ _ _ _ (c .before .before .before .before .loop .inv .0) (c .before .if1 .taken))
+add-counts-2 c = omega (arith, c .before .before .before .before .before .word-at .ensures .1, tally-most _ _ _ _ (c .before .before .before .before .loop .inv .0) (c .before .if1 .taken))
 
 slice-write-counts : tie.Need-slice-write-counts Inv-loop μ-loop
 slice-write-counts c = omega arith
@@ -52,21 +52,21 @@ loop-less c = search needs
 
 loop-again : tie.Need-loop-again Inv-loop μ-loop
 loop-again c =
-    (tally-here _ _ _ _ (c .before .before .before .before .loop .inv .0) (c .before .if1 .taken) (c .before .before .field .ensures .0), (simp length-set (c .before .before .before .before .loop .inv .1 .0), omega arith))
+    (tally-here _ _ _ _ (c .before .before .before .before .loop .inv .0) (c .before .if1 .taken) (c .before .before .field-at .ensures .0), (simp length-set (c .before .before .before .before .loop .inv .1 .0), omega arith))
 
 loop-less-2 : tie.Need-loop-less-2 Inv-loop μ-loop
 loop-less-2 c = search needs
 
 loop-again-2 : tie.Need-loop-again-2 Inv-loop μ-loop
-loop-again-2 c = (c .before .before .before .loop .inv .0 ∙ tally-past _ _ _ (c .before .field .ensures .0) (c .if1 .left), (c .before .before .before .loop .inv .1 .0, omega arith))
+loop-again-2 c = (c .before .before .before .loop .inv .0 ∙ tally-past _ _ _ (c .before .field-at .ensures .0) (c .if1 .left), (c .before .before .before .loop .inv .1 .0, omega arith))
 
 same-length : tie.Need-same-length Inv-loop μ-loop
 same-length c = omega (arith, listed-33 _ _ (c .before .before .before .before .before .pre), c .before .loop .inv .1 .0)
 
 returns : tie.Need-returns Inv-loop μ-loop
 returns c =
-    let end : c .before .loop .rule ≡ c .before .before .word .result = omega arith in
-    c .before .loop .inv .0 ∙ ap (λ (n : ℕ). listed 33 (tallyOf (now (c .before .before .before .before .before .args .table)) n)) (end ∙ c .before .before .word .ensures .0)
+    let end : c .before .loop .rule ≡ c .before .before .word-at .result = omega arith in
+    c .before .loop .inv .0 ∙ ap (λ (n : ℕ). listed 33 (tallyOf (now (c .before .before .before .before .before .args .table)) n)) (end ∙ c .before .before .word-at .ensures .0)
 
 pub count-rules-spec : {M : Type 1} → statement M
 count-rules-spec =
@@ -74,10 +74,10 @@ count-rules-spec =
     (tie.spec
     Inv-loop
     μ-loop
-    word-requires
+    word-at-requires
     loop-holds
     cast-loop
-    field-requires
+    field-at-requires
     add-rule
     add-counts
     mul-counts

@@ -4,7 +4,7 @@ use borrow.Author.Needs.{needs}
 use Prim.Native.Nat.{_-_}
 use native.Mathlib.Omega.{arith}
 use lib.ListN.{length}
-use Rattle.resolver.proofs.Passed.{at-most-one}
+use Rattle.plain.proofs.Passed.{at-most-one}
 use Rattle.resolver.proofs.Tally.{Judging, none-judged, one-judged, all-judged}
 use Rattle.resolver.proofs.instruction.judge.Statement.{statement}
 use Rattle.resolver.proofs.instruction.judge.Tie as tie

@@ -5,7 +5,7 @@ use Prim.Native.Nat.{_-_}
 use native.Mathlib.Omega.{arith}
 use lib.ListN.{length}
 use Rattle.resolver.specs.Passes.{markedWord}
-use Rattle.resolver.proofs.Replaced.{Replaced, replaced-none, replaced-turn, replaced-all}
+use Rattle.plain.proofs.Replaced.{Replaced, replaced-none, replaced-turn, replaced-all}
 use Rattle.resolver.proofs.instruction.mark_all.Statement.{statement}
 use Rattle.resolver.proofs.instruction.mark_all.Tie as tie
 

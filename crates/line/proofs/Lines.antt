@@ -1,0 +1,147 @@
+-- The line's check: the scan for the first bad byte, for the code, and that a line has no fault exactly if it is good.
+use mathlib.Core.Path.{_≡_, refl, sym, ap, _∙_}
+use mathlib.Core.Logic.{_↔_}
+use mathlib.Core.Bool.{Bool, true, false, not, _&&_}
+use mathlib.Core.List.{List, [], _∷_}
+use mathlib.Core.Option.{Option, none, some, Option·some-ne-none}
+use Prim.Native.Nat.{ℕ, zero, suc, _+_, _-_, _≤_, _<_}
+use native.Mathlib.Numerals.{add-one}
+use native.Mathlib.Omega.{arith}
+use lib.Dec.{ltb, eqb}
+use lib.ListN.{length, getD, drop}
+use lib.Seq.{drop-cons, drop-length}
+use borrow.Author.Tests.{lt-ltb, le-ltb, ltb-true, ltb-false, le-leb, lt-leb}
+use Rattle.plain.specs.Choice.{select}
+use Rattle.token.specs.Token.{isWhitespace}
+use Rattle.syntax.specs.Walker.{byteAt}
+use Rattle.line.specs.Line.{isAllowed, GoodLine, firstBad, endsOpen, orElse, faultAt, numbered, lineVerdict}
+
+-- ---- a byte, as the code tests it
+
+module _ (b : ℕ) where
+  pub allowed-space : isWhitespace b ≡ true → true ≡ isAllowed b
+  unfolding isAllowed
+  allowed-space e = rw (isAllowed, e)
+
+  pub allowed-low : isWhitespace b ≡ false → b < 33 → false ≡ isAllowed b
+  unfolding isAllowed
+  allowed-low e h = rw (isAllowed, e, lt-leb 33 b h)
+
+  pub allowed-high : isWhitespace b ≡ false → 33 ≤ b → 126 < b → false ≡ isAllowed b
+  unfolding isAllowed
+  allowed-high e h k = rw (isAllowed, e, le-leb 33 b h, lt-leb b 126 k)
+
+  pub allowed-printed : isWhitespace b ≡ false → 33 ≤ b → b ≤ 126 → not (eqb b 59) ≡ isAllowed b
+  unfolding isAllowed
+  allowed-printed e h k = rw (isAllowed, e, le-leb 33 b h, le-leb b 126 k)
+
+-- ---- the scan's steps
+
+-- the first bad byte from place i on
+abbrev pub badFrom : List ℕ → ℕ → Option ℕ
+badFrom line i = firstBad (drop i line) i
+
+module _ (line : List ℕ) where
+  unrolled : (i : ℕ) → i < length line → badFrom line i ≡ select (isAllowed (byteAt line i)) (badFrom line (suc i)) (some i)
+  unfolding firstBad
+  unrolled i h = ap (λ (bs : List ℕ). firstBad bs i) (drop-cons line i 0 h)
+
+  pub bad-here : (i : ℕ) → i < length line → isAllowed (byteAt line i) ≡ false → badFrom line i ≡ some i
+  bad-here i h e = unrolled i h ∙ ap (λ (b : Bool). select b (badFrom line (suc i)) (some i)) e
+
+  pub bad-later : (i : ℕ) → i < length line → isAllowed (byteAt line i) ≡ true → badFrom line (i + 1) ≡ badFrom line i
+  bad-later i h e =
+      ap (badFrom line) (add-one i) ∙ sym (unrolled i h ∙ ap (λ (b : Bool). select b (badFrom line (suc i)) (some i)) e)
+
+  pub bad-none : badFrom line (length line) ≡ none
+  unfolding firstBad
+  bad-none = ap (λ (bs : List ℕ). firstBad bs (length line)) (drop-length line)
+
+-- ---- number and place, as the code finds them
+
+pub verdict-long : (line : List ℕ) → 120 < length line → (3, 120) ≡ lineVerdict line
+unfolding faultAt
+verdict-long line h = sym (ap (λ (t : Bool). numbered (select t (some 120) (orElse (firstBad line 0) (select (endsOpen line) (some (length line - 1)) none)))) (lt-ltb 120 (length line) h))
+
+module _ (line : List ℕ) (short : length line ≤ 120) where
+  settled : (o : Option ℕ) (t : Bool) → badFrom line 0 ≡ o → endsOpen line ≡ t → numbered (orElse o (select t (some (length line - 1)) none)) ≡ lineVerdict line
+  unfolding faultAt
+  settled o t p q =
+      sym
+      (ap (λ (s : Bool). numbered (select s (some 120) (orElse (firstBad line 0) (select (endsOpen line) (some (length line - 1)) none)))) (le-ltb 120 (length line) short)
+      ∙ ap (λ (m : Option ℕ). numbered (orElse m (select (endsOpen line) (some (length line - 1)) none))) p
+      ∙ ap (λ (s : Bool). numbered (orElse o (select s (some (length line - 1)) none))) q)
+
+  pub verdict-byte : (i : ℕ) → badFrom line 0 ≡ some i → (3, i) ≡ lineVerdict line
+  verdict-byte i p = settled (some i) (endsOpen line) p refl
+
+  -- past the last byte, with none bad
+  module _ (i : ℕ) (end : length line ≡ i) (passed : badFrom line i ≡ badFrom line 0) where
+    clean : badFrom line 0 ≡ none
+    clean = sym passed ∙ ap (badFrom line) (sym end) ∙ bad-none line
+
+    placed : (t : Bool) → endsOpen line ≡ t → numbered (select t (some (i - 1)) none) ≡ lineVerdict line
+    placed t e = ap (λ (n : ℕ). numbered (select t (some (n - 1)) none)) (sym end) ∙ settled none t clean e
+
+    ends : (t : Bool) → 0 < i → isWhitespace (byteAt line (i - 1)) ≡ t → endsOpen line ≡ t
+    unfolding endsOpen
+    ends t h e =
+        ap (λ (s : Bool). s && isWhitespace (byteAt line (length line - 1))) (lt-ltb 0 (length line) (omega arith))
+        ∙ ap (λ (n : ℕ). isWhitespace (byteAt line (n - 1))) end
+        ∙ e
+
+    pub verdict-end : 0 < i → isWhitespace (byteAt line (i - 1)) ≡ true → (3, i - 1) ≡ lineVerdict line
+    verdict-end h e = placed true (ends true h e)
+
+    pub verdict-good : 0 < i → isWhitespace (byteAt line (i - 1)) ≡ false → (0, 0) ≡ lineVerdict line
+    verdict-good h e = placed false (ends false h e)
+
+    pub verdict-empty : i ≤ 0 → (0, 0) ≡ lineVerdict line
+    unfolding endsOpen
+    verdict-empty h =
+        placed false (ap (λ (t : Bool). t && isWhitespace (byteAt line (length line - 1))) (le-ltb 0 (length line) (omega arith)))
+
+-- ---- no fault exactly if the line is good
+
+all-allowed : (bs : List ℕ) (i : ℕ) → firstBad bs i ≡ none → (k : ℕ) → k < length bs → isAllowed (getD bs k 0) ≡ true
+unfolding firstBad
+all-allowed [] i e k h = absurd (omega arith)
+all-allowed (b ∷ bs) i e k h = go (isAllowed b) refl e k h (all-allowed bs (suc i))
+  where
+    go : (t : Bool) → isAllowed b ≡ t → select t (firstBad bs (suc i)) (some i) ≡ none → (k : ℕ) → k < suc (length bs)
+        → (firstBad bs (suc i) ≡ none → (j : ℕ) → j < length bs → isAllowed (getD bs j 0) ≡ true) → isAllowed (getD (b ∷ bs) k 0) ≡ true
+    go true p q zero l ih = p
+    go true p q (suc j) l ih = ih q j (omega arith)
+    go false p q m l ih = absurd (Option·some-ne-none i q)
+
+none-bad : (bs : List ℕ) (i : ℕ) → ((k : ℕ) → k < length bs → isAllowed (getD bs k 0) ≡ true) → firstBad bs i ≡ none
+unfolding firstBad
+none-bad [] i h = refl
+none-bad (b ∷ bs) i h =
+    ap (λ (t : Bool). select t (firstBad bs (suc i)) (some i)) (h 0 (omega arith)) ∙ none-bad bs (suc i) (λ k l. h (suc k) (omega arith))
+
+pub good-is : (line : List ℕ) → (faultAt line ≡ none) ↔ GoodLine line
+unfolding faultAt endsOpen
+good-is line = (forth (ltb 120 (length line)) (firstBad line 0) (ltb 0 (length line)) (isWhitespace (byteAt line (length line - 1))) refl refl refl refl, back)
+  where
+    forth : (l : Bool) (o : Option ℕ) (m w : Bool)
+        → ltb 120 (length line) ≡ l → firstBad line 0 ≡ o → ltb 0 (length line) ≡ m → isWhitespace (byteAt line (length line - 1)) ≡ w
+        → select l (some 120) (orElse o (select (m && w) (some (length line - 1)) none)) ≡ none → GoodLine line
+    forth true o m w p q r s e = absurd (Option·some-ne-none 120 e)
+    forth false (some i) m w p q r s e = absurd (Option·some-ne-none i e)
+    forth false none true true p q r s e = absurd (Option·some-ne-none (length line - 1) e)
+    forth false none true false p q r s e = record { short = ltb-false 120 (length line) p; bytes = all-allowed line 0 q; last = λ h. s }
+    forth false none false w p q r s e = record {
+      short = ltb-false 120 (length line) p;
+      bytes = all-allowed line 0 q;
+      last = λ h. absurd (omega (arith, ltb-false 0 (length line) r));
+    }
+
+    back : GoodLine line → faultAt line ≡ none
+    back g = faultless (firstBad line 0) (ltb 0 (length line)) (none-bad line 0 (g .bytes)) refl
+      where
+        faultless : (o : Option ℕ) (m : Bool) → o ≡ none → ltb 0 (length line) ≡ m
+            → select (ltb 120 (length line)) (some 120) (orElse o (select (m && isWhitespace (byteAt line (length line - 1))) (some (length line - 1)) none)) ≡ none
+        faultless (some i) m p q = absurd (Option·some-ne-none i p)
+        faultless none true p q = rw (le-ltb 120 (length line) (g .short), g .last (ltb-true 0 (length line) q))
+        faultless none false p q = rw (le-ltb 120 (length line) (g .short))

@@ -1,0 +1,57 @@
+// The line's check, added by the port: number 3 and its place. The Rust is handed lines that its own tokenizer has
+// cut out of a file, so it has no such check.
+ghost use mathlib.Core.Path.{_≡_};
+ghost use Rattle.line.specs.Line.{isAllowed, lineSays, lineVerdict};
+
+const LONGEST: usize = 120;
+
+const FIRST_PRINTED: u8 = 33;
+
+const LAST_PRINTED: u8 = 126;
+
+const SEMICOLON: u8 = 59;
+
+// Whether a line is one, and if not, the place that number 3 returns.
+pub enum LineCheck {
+    Good,
+    Bad { place: usize },
+}
+
+// Whether a line may hold the byte: 9, 32, or 33 to 126 except 59.
+fn is_allowed(b: u8) -> bool
+    ensures { λ r. ⌜ r ≡ isAllowed b ⌝ }
+{
+    if token::is_whitespace(b) {
+        return true;
+    }
+    if b < FIRST_PRINTED {
+        return false;
+    }
+    if LAST_PRINTED < b {
+        return false;
+    }
+    b != SEMICOLON
+}
+
+// At most 120 bytes, each one allowed, the last no whitespace. The place is 120 if the line is too long, else the
+// first bad byte's, else the last byte's.
+pub fn check_line(line: &[u8]) -> LineCheck
+    ensures answers { λ r. ⌜ lineSays r ≡ lineVerdict (now (line .entry)) ⌝ }
+{
+    if LONGEST < line.len() {
+        return LineCheck::Bad { place: LONGEST };
+    }
+    let mut i = 0;
+    while i < line.len() {
+        if !is_allowed(line[i]) {
+            return LineCheck::Bad { place: i };
+        }
+        i += 1;
+    }
+    if 0 < i {
+        if token::is_whitespace(line[i - 1]) {
+            return LineCheck::Bad { place: i - 1 };
+        }
+    }
+    LineCheck::Good
+}

@@ -1,0 +1,107 @@
+-- The byte table's rule, from one computed test of all its 256 entries, and what a class gives back.
+use mathlib.Core.Path.{_≡_, refl, sym, ap, _∙_}
+use mathlib.Core.Logic.{_⊎_, inl, inr}
+use mathlib.Core.Bool.{Bool, true, false, _&&_}
+use mathlib.Core.List.{map}
+use Prim.Native.Nat.{ℕ, _+_, _/_, _%_, _<_, _≤_}
+use native.Mathlib.Nat.{zero-add}
+use native.Mathlib.Omega.{arith}
+use lib.Dec.{eqb, leb}
+use lib.ListN.{getD, List·getD-map}
+use borrow.Author.Tests.{leb-true, lt-leb, eqb-true, eqb-false, eq-eqb, ne-eqb}
+use Rattle.plain.specs.Choice.{select}
+use Rattle.plain.specs.Lists.{range}
+use Rattle.plain.proofs.Lists.{range-at}
+use Rattle.plain.proofs.Tests.{and-left, and-right, and-false-right, tested}
+use Rattle.token.specs.Token.{isWhitespace, lowered, sameLetter, classKind, classOf}
+
+-- each byte finds its own class in the list of all classes, which antt computes and compares with the table
+pub class-rule : (b : ℕ) → b < 256 → getD (map classOf (range 0 256)) b 0 ≡ classOf b
+unfolding classOf lowered classKind isWhitespace
+class-rule b h = List·getD-map classOf (range 0 256) b 0 ∙ ap classOf (range-at 0 256 b 0 h ∙ zero-add b)
+
+pub lowered-below : (b : ℕ) → b < 256 → lowered b < 256
+unfolding lowered
+lowered-below b h = go (leb 65 b && leb b 90) refl
+  where
+    go : (t : Bool) → (leb 65 b && leb b 90) ≡ t → select t (b + 32) b < 256
+    go true e = omega (arith, leb-true b 90 (and-right (leb 65 b) (leb b 90) e))
+    go false e = h
+
+pub class-partner : (b : ℕ) → b < 256 → classOf b % 256 ≡ lowered b
+unfolding classOf
+class-partner b h = omega (arith, lowered-below b h)
+
+pub class-kind : (b : ℕ) → b < 256 → classOf b / 256 ≡ classKind b
+unfolding classOf
+class-kind b h = omega (arith, lowered-below b h)
+
+pub kind-whitespace : (b : ℕ) → eqb (classKind b) 1 ≡ isWhitespace b
+unfolding classKind
+kind-whitespace b = go (isWhitespace b) (eqb b 40) (eqb b 41) (eqb b 123) (eqb b 125)
+  where
+    go : (w o c p q : Bool) → eqb (select w 1 (select o 2 (select c 3 (select p 4 (select q 5 0))))) 1 ≡ w
+    go true o c p q = refl
+    go false true c p q = refl
+    go false false true p q = refl
+    go false false false true q = refl
+    go false false false false true = refl
+    go false false false false false = refl
+
+-- ---- where the table need not be read
+
+pub white-above : (b : ℕ) → 32 < b → false ≡ isWhitespace b
+unfolding isWhitespace
+white-above b h = rw (isWhitespace, ne-eqb b 9 (λ e. omega arith), ne-eqb b 32 (λ e. omega arith))
+
+pub low-below : (b : ℕ) → b < 65 → b ≡ lowered b
+unfolding lowered
+low-below b h = rw (lowered, lt-leb 65 b h)
+
+pub low-above : (b : ℕ) → 90 < b → b ≡ lowered b
+unfolding lowered
+low-above b h = ap (λ (t : Bool). select t (b + 32) b) (sym (and-false-right (leb 65 b) (leb b 90) (lt-leb b 90 h)))
+
+-- A byte's partner is itself or, if it is a capital, 32 above.
+abbrev Partner : ℕ → ℕ → Type 0
+Partner b p = (p ≡ b) ⊎ ((p ≡ b + 32) × (65 ≤ b) × (b ≤ 90))
+
+partner : (b : ℕ) → Partner b (lowered b)
+unfolding lowered
+partner b = go (leb 65 b && leb b 90) refl
+  where
+    go : (t : Bool) → (leb 65 b && leb b 90) ≡ t → Partner b (select t (b + 32) b)
+    go true e = inr (refl, leb-true 65 b (and-left (leb 65 b) (leb b 90) e), leb-true b 90 (and-right (leb 65 b) (leb b 90) e))
+    go false e = inl refl
+
+-- So two bytes with one partner are the same, or 32 apart, and then the greater is no capital.
+module _ (a b : ℕ) where
+  apart : (p q : ℕ) → Partner a p → Partner b q → p ≡ q → (a ≡ b → ⊥) → (a + 32 ≡ b → ⊥) → b + 32 ≡ a
+  apart p q (inl x) (inl y) e n m = absurd (n (omega (arith, e, x, y)))
+  apart p q (inl x) (inr y) e n m = omega (arith, e, x, y .0)
+  apart p q (inr x) (inl y) e n m = absurd (m (omega (arith, e, x .0, y)))
+  apart p q (inr x) (inr y) e n m = absurd (n (omega (arith, e, x .0, y .0)))
+
+  pub letters-apart : (a ≡ b → ⊥) → (a + 32 ≡ b → ⊥) → (b + 32 ≡ a → ⊥) → false ≡ sameLetter a b
+  letters-apart n m k =
+      sym (ne-eqb (lowered a) (lowered b) (λ e. k (apart (lowered a) (lowered b) (partner a) (partner b) e n m)))
+
+  same-or-not : (p q : ℕ) → Partner a p → Partner b q → a + 32 ≡ b → eqb p b ≡ eqb p q
+  same-or-not p q x (inl y) d = ap (eqb p) (sym y)
+  same-or-not p q (inl x) (inr y) d =
+      ne-eqb p b (λ e. omega (arith, e, x, d)) ∙ sym (ne-eqb p q (λ e. omega (arith, e, x, y .0, d)))
+  same-or-not p q (inr x) (inr y) d = absurd (omega (arith, d, x .1, y .2))
+
+  -- the partner of the lesser decides
+  pub letters-near : a + 32 ≡ b → (r : ℕ) → r ≡ lowered a → eqb r b ≡ sameLetter a b
+  letters-near d r e = ap (λ (n : ℕ). eqb n b) e ∙ same-or-not (lowered a) (lowered b) (partner a) (partner b) d
+
+pub letters-swap : (a b : ℕ) → sameLetter b a ≡ sameLetter a b
+letters-swap a b = go (tested (sameLetter a b))
+  where
+    go : (sameLetter a b ≡ true) ⊎ (sameLetter a b ≡ false) → sameLetter b a ≡ sameLetter a b
+    go (inl e) = eq-eqb (lowered b) (lowered a) (sym (eqb-true (lowered a) (lowered b) e)) ∙ sym e
+    go (inr e) = ne-eqb (lowered b) (lowered a) (λ q. eqb-false (lowered a) (lowered b) e (sym q)) ∙ sym e
+
+pub letters-equal : (a b : ℕ) → a ≡ b → true ≡ sameLetter a b
+letters-equal a b e = sym (eq-eqb (lowered a) (lowered b) (ap lowered e))
