@@ -1,20 +1,15 @@
--- Any two answers that a promise of this crate allows are equal: each is an equation, of the result or of the lent answer
--- as it stands at exit.
+-- How tight the promises are: any two answers that a function's contract allows on the same arguments are equal. Each law is
+-- stated over the contract itself, `Post`, so a weaker contract breaks it.
 use mathlib.Core.Path.{_≡_}
-use mathlib.Core.List.{List, []}
-use Prim.Native.Nat.{ℕ}
+use denote.Ref.{now}
 use Rattle.plain.proofs.Answers.{one-answer}
-use Rattle.readings.specs.Answer.{answerWords}
-use Rattle.readings.specs.Scene.{sceneOf}
 use Rattle.answer.specs.declared.Measure.{Measure}
-use Rattle.answer.specs.Measured.{treesIn, measured, atStart}
+use Rattle.answer.proofs.measure_answer.Reads as measure-answer
+use Rattle.answer.proofs.write_answer.Reads as write-answer
 
-module _ (t store : List ℕ) (used : ℕ) where
-  module _ (r s : Measure) where
-    pub measure-answer-tight : r ≡ measured t (treesIn store used) → s ≡ measured t (treesIn store used) → r ≡ s
-    measure-answer-tight = one-answer
+pub measure-answer-tight : (κs a : _) (r s : Measure) (x y : _) → measure-answer.Post κs a r x → measure-answer.Post κs a s y → r ≡ s
+measure-answer-tight κs a r s x y = one-answer
 
-  module _ (buffer r s : List ℕ) where
-    pub write-answer-tight :
-        r ≡ atStart (answerWords (sceneOf t [] []) (treesIn store used)) buffer → s ≡ atStart (answerWords (sceneOf t [] []) (treesIn store used)) buffer → r ≡ s
-    write-answer-tight = one-answer
+-- the lent answer as it stands at exit
+pub write-answer-tight : (κs a : _) (r s : _) (x y : _) → write-answer.Post κs a r x → write-answer.Post κs a s y → now (x .1 .1 .1 .1 .1 .0) ≡ now (y .1 .1 .1 .1 .1 .0)
+write-answer-tight κs a r s x y = one-answer

@@ -16,7 +16,8 @@ use Rattle.pool.specs.Log.{decode, depthIn}
 use Rattle.pool.specs.Meaning.{treeAt, Stored, entries}
 use Rattle.trees.proofs.Writes.{put-none, put-end, put-more}
 use Rattle.answer.specs.declared.Measure.{Measure}
-use Rattle.answer.specs.Measured.{treesIn, treesTo, measured, atStart}
+use Rattle.answer.specs.Measured.{treesIn, treesTo, measured}
+use Rattle.plain.specs.Buffers.{atStart}
 use Rattle.answer.proofs.Tops.{none-yet, the-rest, all-passed, none-here, one-here}
 use Rattle.answer.proofs.Greatest.{withCount, withCount-append, kept, dropped, words-append, words-more}
 

@@ -1,8 +1,8 @@
 -- The matches of a call, and the measure of their answer.
 use mathlib.Core.Path.{_≡_}
-use mathlib.Core.List.{List, [], _++_, map, List·Memᴰ}
+use mathlib.Core.List.{List, [], map, List·Memᴰ}
 use Prim.Native.Nat.{ℕ, _≤_, _<_}
-use lib.ListN.{length, take, drop, getD}
+use lib.ListN.{length, take, getD}
 use Rattle.readings.specs.Tree.{Tree}
 use Rattle.readings.specs.Scene.{sceneOf}
 use Rattle.readings.specs.Call.{tree}
@@ -41,7 +41,3 @@ pub record OneMore (t starts store : List ℕ) (used m : ℕ) (found : Measure) 
   pub below : m < used
   pub top : depthIn (decode (getD store m 0)) ≡ 0
   pub is : found ≡ measured t (treesTo store used m)
-
--- words at a buffer's start, and the rest of it unchanged
-abbrev pub atStart : List ℕ → List ℕ → List ℕ
-atStart words buffer = words ++ drop (length words) buffer

@@ -9,7 +9,8 @@ ghost use Rattle.readings.specs.Answer.{answerWords};
 ghost use Rattle.readings.specs.Scene.{sceneOf};
 ghost use Rattle.pool.specs.Meaning.{Stored};
 ghost use Rattle.trees.specs.Asked.{Begun};
-ghost use Rattle.answer.specs.Measured.{treesIn, treesTo, Bounded, measured, OneMore, atStart};
+ghost use Rattle.answer.specs.Measured.{treesIn, treesTo, Bounded, measured, OneMore};
+ghost use Rattle.plain.specs.Buffers.{atStart};
 
 // How many matches the answer has, their exact count, and how many words it takes.
 pub struct Measure {

@@ -9,12 +9,12 @@ use Rattle.syntax.specs.Cut.{isWanted, isStray, nesting, passedTo, takenIn, tur
 use Rattle.line.specs.Line.{isAllowed, firstBad, endsOpen, faultAt}
 use Rattle.defs.specs.Table.{wordAt, flagAt, fieldAt, partWordAt, partOf, ruleFrom, ruleWords, ruleParts, inRange, sizesFit, lengthFits, flagsFit, rulesetBefore, rulesetFits, rulesetsFit, rangeFits, rangesFit, countsFit, parametersIn, parametersFit, isPart, partsFit, tableFits}
 use Rattle.defs.specs.Ruledef.{recordsOf, isTop, rulesetOf}
-use Rattle.ruledef_map.specs.RuledefMap.{leading, rulePrefix, linePrefix}
+use Rattle.ruledef_map.specs.RuledefMap.{leading, rulePrefix, linePrefix, withPrefix, foundIn}
 use Rattle.extents.specs.Sheet.{sized, entryAt, entryFits, fitsAt, rowFits, halfFits, sheetFits, readable, endIn}
 use Rattle.readings.specs.Scene.{sceneOf}
-use Rattle.readings.specs.Plan.{run, _then_, each, mapped}
+use Rattle.readings.specs.Plan.{run, each, mapped}
 use Rattle.readings.specs.Walk.{exactly, lookahead, cutFor, candidates, anySame, fresh, firsts, ends, limits, walk, rulesetWalk, under, trial, tries, topPairs, scan}
-use Rattle.readings.specs.Lookup.{withPrefix, foundPairs, lookup}
+use Rattle.readings.specs.Lookup.{lookup}
 use Rattle.readings.specs.Answer.{exactParts, greatest, greatestCount, best, allWords, wordsOf}
 use Rattle.readings.specs.Call.{budgetFits, callWith}
 use Rattle.resolver.specs.Outcome.{ofKind, outcomeOf, isBad, outcomesOf, wordOf, isGuess, isResolved, isKnown, sizeOf, asGuess}
@@ -49,5 +49,5 @@ pub bench :
     ∷ (13 ∷ 2 ∷ 134 ∷ 70 ∷ 70 ∷ 9 ∷ 9 ∷ 9 ∷ [])
     ∷ (0 ∷ 2 ∷ 134 ∷ 70 ∷ 70 ∷ 1 ∷ 2 ∷ 9 ∷ [])
     ∷ []
-unfolding cases flatMap everyBelow sumBelow countBelow range keepIf some-of count listed isWhitespace lowered held over skipped usefulFrom useful gap isWanted isStray nesting passedTo takenIn turnOf searched cutFrom cut isAllowed firstBad endsOpen faultAt wordAt flagAt fieldAt partWordAt partOf ruleFrom ruleWords ruleParts inRange sizesFit lengthFits flagsFit rulesetBefore rulesetFits rulesetsFit rangeFits rangesFit countsFit parametersIn parametersFit isPart partsFit tableFits recordsOf isTop rulesetOf leading rulePrefix linePrefix sized entryAt entryFits fitsAt rowFits halfFits sheetFits readable endIn lookahead sceneOf run _then_ each mapped exactly expectChar cutFor candidates anySame fresh firsts ends limits walk rulesetWalk under trial tries topPairs scan withPrefix foundPairs lookup exactParts greatest greatestCount best allWords wordsOf budgetFits callWith ofKind outcomeOf isBad outcomesOf wordOf isGuess isResolved isKnown sizeOf asGuess marked lesser leastSize sameSize hasSize indicesOf choiceOf answerOn answerOf selected
+unfolding cases flatMap everyBelow sumBelow countBelow range keepIf some-of count listed isWhitespace lowered held over skipped usefulFrom useful gap isWanted isStray nesting passedTo takenIn turnOf searched cutFrom cut isAllowed firstBad endsOpen faultAt wordAt flagAt fieldAt partWordAt partOf ruleFrom ruleWords ruleParts inRange sizesFit lengthFits flagsFit rulesetBefore rulesetFits rulesetsFit rangeFits rangesFit countsFit parametersIn parametersFit isPart partsFit tableFits recordsOf isTop rulesetOf leading rulePrefix linePrefix sized entryAt entryFits fitsAt rowFits halfFits sheetFits readable endIn lookahead sceneOf run _then_ each mapped exactly expectChar cutFor candidates anySame fresh firsts ends limits walk rulesetWalk under trial tries topPairs scan withPrefix foundIn lookup exactParts greatest greatestCount best allWords wordsOf budgetFits callWith ofKind outcomeOf isBad outcomesOf wordOf isGuess isResolved isKnown sizeOf asGuess marked lesser leastSize sameSize hasSize indicesOf choiceOf answerOn answerOf selected
 bench = refl

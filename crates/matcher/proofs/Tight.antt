@@ -1,16 +1,19 @@
--- Any two answers that the promises allow are equal, in what is returned and in the buffer: `answers` is an equation, and an
--- answer's case is known by its number and fields. So `readings` and `visits`, which say demand 3 of the same answer, leave
--- no more choice.
+-- How tight the promises are: any two answers that a contract allows on the same arguments are equal, in what is returned and
+-- in the buffer at exit. Each law is stated over the contract itself, `Post`: its first clause, `answers`, is an equation, and
+-- an answer's case is known by its number and fields. So `readings`, `visits` and `agrees`, which say demand 3 of the same
+-- answer, leave no more choice.
 use mathlib.Core.Path.{_≡_, refl, sym, ap, _∙_}
 use mathlib.Core.List.{List}
-use Prim.Native.Nat.{ℕ}
 use lib.Dec.{eqb}
+use denote.Ref.{now}
 use Rattle.plain.specs.Choice.{select}
 use Rattle.plain.proofs.Answers.{one-answer}
-use Rattle.readings.specs.Call.{Told, scanCall, lookupCall}
+use Rattle.readings.specs.Call.{Told}
 use Rattle.matcher.specs.declared.Answer.{Answer}
 use Rattle.matcher.specs.declared.Answer.the-variants.{Matched, NoMatch, BadTable, BadLine, BadSheet, BadBudget, Spent, TooDeep, PoolFull, TooLong}
 use Rattle.matcher.specs.Told.{says}
+use Rattle.matcher.proofs.match_instr.Reads as match-instr
+use Rattle.matcher.proofs.match_with_ruledef_map.Reads as match-with-ruledef-map
 
 -- the case of a number and fields
 case-of : Told → Answer
@@ -55,9 +58,9 @@ same-answer : (a c : Answer) (b d : List ℕ) → says a b ≡ says c d → (a �
 same-answer a c b d e =
     (sym (case-of-says a b) ∙ ap case-of e ∙ case-of-says c d, sym (buffer-of a b) ∙ ap (λ (r : Told). r .buffer) e ∙ buffer-of c d)
 
-module _ (t line sheet : List ℕ) (budget : ℕ) (buffer : List ℕ) (a c : Answer) (b d : List ℕ) where
-  pub match-instr-tight : says a b ≡ scanCall t line sheet budget buffer → says c d ≡ scanCall t line sheet budget buffer → (a ≡ c) × (b ≡ d)
-  match-instr-tight p q = same-answer a c b d (one-answer p q)
+pub match-instr-tight : (κs a : _) (r s : Answer) (x y : _) → match-instr.Post κs a r x → match-instr.Post κs a s y → (r ≡ s) × (now (x .1 .1 .1 .1 .0) ≡ now (y .1 .1 .1 .1 .0))
+match-instr-tight κs a r s x y p q = same-answer r s _ _ (one-answer (p .0) (q .0))
 
-  pub match-with-ruledef-map-tight : says a b ≡ lookupCall t line sheet budget buffer → says c d ≡ lookupCall t line sheet budget buffer → (a ≡ c) × (b ≡ d)
-  match-with-ruledef-map-tight p q = same-answer a c b d (one-answer p q)
+pub match-with-ruledef-map-tight : (κs a : _) (r s : Answer) (x y : _) → match-with-ruledef-map.Post κs a r x → match-with-ruledef-map.Post κs a s y
+    → (r ≡ s) × (now (x .1 .1 .1 .1 .0) ≡ now (y .1 .1 .1 .1 .0))
+match-with-ruledef-map-tight κs a r s x y p q = same-answer r s _ _ (one-answer (p .0) (q .0))

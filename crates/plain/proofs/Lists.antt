@@ -1,6 +1,6 @@
 -- Laws of ranges and of the members that a test keeps. Each goes by induction on the list or on the range's length.
 use mathlib.Core.Path.{_≡_, refl, sym, ap, ap₂, _∙_}
-use mathlib.Core.Bool.{Bool, true, false, _||_}
+use mathlib.Core.Bool.{Bool, true, false, _&&_, _||_}
 use mathlib.Core.List.{List, [], _∷_, _++_, map, flatMap, append-nil, append-assoc}
 use Prim.Native.Nat.{ℕ, zero, suc, _+_, _≤_, _<_}
 use native.Mathlib.Nat.{add-zero, zero-add, add-suc, suc-add}
@@ -181,3 +181,14 @@ flat-fewer {A} f m (suc k) h =
     ∙ ap (λ (l : List A). flatMap f (range 0 (m + k)) ++ l) (h (m + k) (omega arith) (omega arith))
     ∙ append-nil (flatMap f (range 0 (m + k)))
     ∙ flat-fewer f m k (λ i a b. h i a (omega arith))
+
+-- what one test keeps of what another kept, both keep
+pub kept-both : {A : Type 0} (f g : A → Bool) (xs : List A) → keepIf g (keepIf f xs) ≡ keepIf (λ x. f x && g x) xs
+unfolding keepIf
+kept-both f g [] = refl
+kept-both {A} f g (x ∷ xs) = go (f x) (kept-both f g xs)
+  where
+    go : (b : Bool) → keepIf g (keepIf f xs) ≡ keepIf (λ y. f y && g y) xs
+        → keepIf g (select b (x ∷ keepIf f xs) (keepIf f xs)) ≡ select (b && g x) (x ∷ keepIf (λ y. f y && g y) xs) (keepIf (λ y. f y && g y) xs)
+    go true e = ap (λ (l : List A). select (g x) (x ∷ l) l) e
+    go false e = e

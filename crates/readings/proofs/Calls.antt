@@ -1,15 +1,14 @@
 -- The whole call, case by case: each number exactly in its case, and demand 3 for scan and lookup.
 use mathlib.Core.Path.{_≡_, refl, _∙_, ap}
-use mathlib.Core.Logic.{_⊎_, inl, inr, ⊎-elim}
-use mathlib.Core.Bool.{Bool, true, false}
+use mathlib.Core.Bool.{true, false}
 use mathlib.Core.Option.{none, some}
-use mathlib.Core.List.{List, [], _∷_, _++_, map, List·Memᴰ·head, List·Memᴰ·not-nil}
+use mathlib.Core.List.{List, [], _∷_, map, List·Memᴰ·not-nil}
 use Prim.Native.Nat.{ℕ, _-_, _≤_, _<_}
 use native.Mathlib.Decide.{decLe}
 use native.Mathlib.Omega.{arith}
-use lib.ListN.{length, drop}
+use lib.ListN.{length}
 use borrow.Author.Tests.{le-leb, lt-leb}
-use Rattle.plain.specs.Choice.{select}
+use Rattle.plain.specs.Buffers.{atStart}
 use Rattle.line.specs.Line.{faultAt}
 use Rattle.defs.specs.Table.{tableFits}
 use Rattle.extents.specs.Sheet.{sheetFits}
@@ -71,11 +70,11 @@ module _ (order : Scene → List (ℕ × ℕ)) (t line sheet : List ℕ) (budget
 -- ---- demand 3, from the readings that a walk has listed
 
 module _ (s : Scene) (v : ℕ) (b : List ℕ) where
-  pub fits : (ws : List ℕ) → length ws ≤ length b → written v ws b ≡ record { number = 0; visits = v; words = length ws; place = 0; buffer = ws ++ drop (length ws) b }
-  fits ws h = ap (λ (x : Bool). select x (record { number = 0; visits = v; words = length ws; place = 0; buffer = ws ++ drop (length ws) b }) (record { number = 9; visits = v; words = length ws; place = 0; buffer = b })) (le-leb (length ws) (length b) h)
+  pub fits : (ws : List ℕ) → length ws ≤ length b → written v ws b ≡ record { number = 0; visits = v; words = length ws; place = 0; buffer = atStart ws b }
+  fits ws h = rw (le-leb (length ws) (length b) h)
 
   pub short : (ws : List ℕ) → length b < length ws → written v ws b ≡ record { number = 9; visits = v; words = length ws; place = 0; buffer = b }
-  short ws h = ap (λ (x : Bool). select x (record { number = 0; visits = v; words = length ws; place = 0; buffer = ws ++ drop (length ws) b }) (record { number = 9; visits = v; words = length ws; place = 0; buffer = b })) (lt-leb (length ws) (length b) h)
+  short ws h = rw (lt-leb (length ws) (length b) h)
 
   words-of : (ws : List ℕ) → written v ws b .words ≡ length ws
   words-of ws = by (decLe (length ws) (length b))
@@ -83,14 +82,6 @@ module _ (s : Scene) (v : ℕ) (b : List ℕ) where
       by : Dec (length ws ≤ length b) → written v ws b .words ≡ length ws
       by (yes h) = ap (λ (r : Told). r .words) (fits ws h)
       by (no h) = ap (λ (r : Told). r .words) (short ws (omega (arith, h)))
-
-  pub visits-told : (ts : List Tree) → matched s v ts b .visits ≡ v
-  visits-told [] = refl
-  visits-told (t ∷ ts) = by (decLe (length (answerWords s (t ∷ ts))) (length b))
-    where
-      by : Dec (length (answerWords s (t ∷ ts)) ≤ length b) → written v (answerWords s (t ∷ ts)) b .visits ≡ v
-      by (yes h) = ap (λ (r : Told). r .visits) (fits (answerWords s (t ∷ ts)) h)
-      by (no h) = ap (λ (r : Told). r .visits) (short (answerWords s (t ∷ ts)) (omega (arith, h)))
 
   pub demand : (ts : List Tree) → Readings s ts → Demand3 s b (matched s v ts b)
   demand [] r = no-match (λ t k. List·Memᴰ·not-nil (r .every k)) (refl, refl, refl)
@@ -111,3 +102,11 @@ module _ (s : Scene) (v : ℕ) (b : List ℕ) where
     where
       ws : List ℕ
       ws = answerWords s (t ∷ ts)
+
+  pub visits-told : (ts : List Tree) → matched s v ts b .visits ≡ v
+  visits-told [] = refl
+  visits-told (t ∷ ts) = by (decLe (length (answerWords s (t ∷ ts))) (length b))
+    where
+      by : Dec (length (answerWords s (t ∷ ts)) ≤ length b) → written v (answerWords s (t ∷ ts)) b .visits ≡ v
+      by (yes h) = ap (λ (r : Told). r .visits) (fits (answerWords s (t ∷ ts)) h)
+      by (no h) = ap (λ (r : Told). r .visits) (short (answerWords s (t ∷ ts)) (omega (arith, h)))

@@ -16,7 +16,7 @@ use Rattle.plain.proofs.Members.{range-below, range-has, range-apart, kept-mem,
 use Rattle.token.specs.Token.{isWhitespace, lowered}
 use Rattle.syntax.specs.Walker.{byteAt, held}
 use Rattle.token.specs.Token.{isSolid}
-use Rattle.ruledef_map.specs.RuledefMap.{leading, rulePrefix, linePrefix}
+use Rattle.ruledef_map.specs.RuledefMap.{leading, rulePrefix, linePrefix, sameBytes, withPrefix, foundIn}
 use Rattle.ruledef_map.proofs.Orders.{same-eq, same-refl}
 use Rattle.defs.specs.declared.ruledef.Part.{Part}
 use Rattle.readings.specs.Tree.{Args}
@@ -24,7 +24,7 @@ use Rattle.readings.specs.Scene.{Scene, Lawful}
 use Rattle.readings.specs.Plan.{give, done, run}
 use Rattle.readings.specs.Walk.{Match, topPairs, scan}
 use Rattle.readings.specs.Reading.{Exactly-at, From, finish, exact, whitespace, expression, nested, Readings}
-use Rattle.readings.specs.Lookup.{hasPrefix, withPrefix, foundPairs, lookup}
+use Rattle.readings.specs.Lookup.{partsOf, foundPairs, lookup}
 use Rattle.readings.proofs.Plans.{each-source, each-has, each-once, joined}
 use Rattle.readings.proofs.Runs.{run-done}
 use Rattle.readings.proofs.Walks.{tree, top-has, top-once}
@@ -87,42 +87,48 @@ begins (suc n) (x ∷ xs) ys = let (p, q) = begins n xs ys in (ap (λ (l : List 
 
 -- ---- the rules that a lookup tries
 
-module _ (s : Scene) (p : List ℕ) where
-  with-mem : (j : ℕ) {x : ℕ × ℕ} → List·Memᴰ x (withPrefix s (take j p)) → List·Memᴰ x (topPairs s) × (rulePrefix (s .parts (x .0) (x .1)) ≡ take j p)
-  unfolding withPrefix
-  with-mem j m = let (i, e) = kept-mem (hasPrefix s (take j p)) (topPairs s) m in (i, same-eq _ _ e)
+-- whatever names them: they are of the given rules, each once, and all whose prefix begins the line's
+module _ {A : Type 0} (parts : A → List Part) (rules : List A) (p : List ℕ) where
+  abbrev of-length : ℕ → List A
+  of-length j = withPrefix parts rules (take j p)
 
-  found-mem : {x : ℕ × ℕ} → List·Memᴰ x (foundPairs s p) → List·Memᴰ x (topPairs s)
-  unfolding foundPairs
+  abbrev lengths : List ℕ
+  lengths = range 0 (suc (length p))
+
+  with-mem : (j : ℕ) {x : A} → List·Memᴰ x (of-length j) → List·Memᴰ x rules × (rulePrefix (parts x) ≡ take j p)
+  unfolding withPrefix
+  with-mem j m = let (i, e) = kept-mem (λ x. sameBytes (rulePrefix (parts x)) (take j p)) rules m in (i, same-eq _ _ e)
+
+  found-mem : {x : A} → List·Memᴰ x (foundIn parts rules p) → List·Memᴰ x rules
+  unfolding foundIn
   found-mem m =
-      let (j, i, xs, g, n) = each-source (λ j. give (withPrefix s (take j p))) (range 0 (suc (length p))) (joined (λ j. withPrefix s (take j p)) (range 0 (suc (length p)))) m in
+      let (j, i, xs, g, n) = each-source (λ j. give (of-length j)) lengths (joined of-length lengths) m in
       with-mem j (rw (← Option·some-inj .0 g) at n) .0
 
-  found-has : {r k : ℕ} (j : ℕ) → List·Memᴰ (r, k) (topPairs s) → j ≤ length p → rulePrefix (s .parts r k) ≡ take j p → List·Memᴰ (r, k) (foundPairs s p)
-  unfolding foundPairs withPrefix
-  found-has {r} {k} j i h e =
-      each-has (λ j. give (withPrefix s (take j p))) (range 0 (suc (length p))) (joined (λ j. withPrefix s (take j p)) (range 0 (suc (length p))))
-      (range-has 0 (suc (length p)) j (omega arith) (omega arith))
-      (λ xs g. rw (← Option·some-inj .0 g) (kept-has (hasPrefix s (take j p)) (topPairs s) (rw e (same-refl (take j p))) i))
+  found-has : {x : A} (j : ℕ) → List·Memᴰ x rules → j ≤ length p → rulePrefix (parts x) ≡ take j p → List·Memᴰ x (foundIn parts rules p)
+  unfolding foundIn withPrefix
+  found-has j i h e =
+      each-has (λ j. give (of-length j)) lengths (joined of-length lengths) (range-has 0 (suc (length p)) j (omega arith) (omega arith))
+      (λ xs g. rw (← Option·some-inj .0 g) (kept-has (λ x. sameBytes (rulePrefix (parts x)) (take j p)) rules (rw e (same-refl (take j p))) i))
 
-  found-once : Lawful s → Apart (λ (x : ℕ × ℕ). x) (foundPairs s p)
-  unfolding foundPairs withPrefix
-  found-once law =
-      each-once (λ j. give (withPrefix s (take j p))) (λ (j : ℕ). j) (λ (x : ℕ × ℕ). x) (λ (x : ℕ × ℕ). length (rulePrefix (s .parts (x .0) (x .1)))) (range 0 (suc (length p)))
+  found-once : Apart (λ (x : A). x) rules → Apart (λ (x : A). x) (foundIn parts rules p)
+  unfolding foundIn withPrefix
+  found-once apart =
+      each-once (λ j. give (of-length j)) (λ (j : ℕ). j) (λ (x : A). x) (λ (x : A). length (rulePrefix (parts x))) lengths
       (λ j xs z i g n.
       ap length (with-mem j (rw (← Option·some-inj .0 g) at n) .1) ∙ length-take-le j p (omega (arith, range-below 0 (suc (length p)) i)))
-      (joined (λ j. withPrefix s (take j p)) (range 0 (suc (length p)))) (range-apart 0 (suc (length p)))
-      (λ j xs g. rw (← Option·some-inj .0 g) (kept-apart (hasPrefix s (take j p)) (λ (x : ℕ × ℕ). x) (topPairs s) (top-once s law)))
+      (joined of-length lengths) (range-apart 0 (suc (length p)))
+      (λ j xs g. rw (← Option·some-inj .0 g) (kept-apart (λ x. sameBytes (rulePrefix (parts x)) (take j p)) (λ (x : A). x) rules apart))
 
 pub lookup-enough : (s : Scene) → Lawful s → Enough s (foundPairs s (linePrefix (s .line)))
 unfolding rulePrefix linePrefix
 lookup-enough s law = record {
-  once = found-once s (linePrefix (s .line)) law;
-  top = λ x m. found-mem s (linePrefix (s .line)) m;
+  once = found-once (partsOf s) (topPairs s) (linePrefix (s .line)) (top-once s law);
+  top = λ x m. found-mem (partsOf s) (topPairs s) (linePrefix (s .line)) m;
   all = λ r k a i j w.
       let (rest, e) = leads s w refl in
       let (p, q) = begins 4 (leading (s .parts r k)) rest in
-      found-has s (linePrefix (s .line)) (length (rulePrefix (s .parts r k))) (top-has s i j) (rw (← e) q) (rw (← e) p);
+      found-has (partsOf s) (topPairs s) (linePrefix (s .line)) (length (rulePrefix (s .parts r k))) (top-has s i j) (rw (← e) q) (rw (← e) p);
 }
 
 -- ---- the theorems

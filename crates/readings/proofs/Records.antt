@@ -25,7 +25,7 @@ use Rattle.plain.proofs.Members.{range-from, range-below, range-has, kept-mem, 
 use Rattle.defs.specs.Table.{wordAt, rulesetsIn, recordsIn, partsIn, partsFrom, rulesetAt, firstAt, countAt, partWordAt, partOf, ruleFrom, ruleSpan, ruleParts}
 use Rattle.defs.specs.Table.{tableFits, sizesFit, lengthFits, flagsFit, rulesetsFit, rangeFits, rangesFit, countsFit, parametersFit, isPart, partsFit}
 use Rattle.defs.specs.Ruledef.{recordsOf, isTop, isTopRule, rulesIn, beginsAt}
-use Rattle.ruledef_map.specs.RuledefMap.{rulePrefix, sameBytes, topRules, foundRules, markOf, withPrefix as recordsWith}
+use Rattle.ruledef_map.specs.RuledefMap.{rulePrefix, sameBytes, topRules, withPrefix, foundIn, foundRules, markOf}
 use Rattle.defs.specs.declared.ruledef.Part.{Part}
 use Rattle.defs.specs.declared.ruledef.Part.the-variants.{Nested}
 use Rattle.defs.specs.declared.ruledef.Parts.{Parts}
@@ -35,7 +35,7 @@ use Rattle.defs.proofs.Starts.{begins-first, begins-next, ruleset-below, record
 use Rattle.ruledef_map.proofs.Orders.{below-room, marks-found}
 use Rattle.readings.specs.Scene.{sceneOf}
 use Rattle.readings.specs.Walk.{topPairs}
-use Rattle.readings.specs.Lookup.{hasPrefix, withPrefix, foundPairs}
+use Rattle.readings.specs.Lookup.{partsOf, foundPairs}
 use Rattle.readings.specs.Records.{pairOf}
 
 -- ---- lists: ranges, and what a test keeps
@@ -79,19 +79,16 @@ module _ {A B : Type 0} where
   flat-mem f [] m = absurd (List·Memᴰ·not-nil m)
   flat-mem f (x ∷ xs) m = elim (List·Memᴰ·append-cases (f x) m) [ inl i ↦ (x, i) | inr j ↦ flat-mem f xs j ]
 
-  -- what one test keeps, mapped, and of that what another keeps
-  kept-map : (f : A → Bool) (g : B → Bool) (h : A → Bool) (to : A → B) (xs : List A) → ((x : A) → List·Memᴰ x xs → g (to x) ≡ h x)
-      → keepIf g (map to (keepIf f xs)) ≡ map to (keepIf (λ x. f x && h x) xs)
+  -- what a test keeps of members that were mapped
+  kept-map : (g : B → Bool) (h : A → Bool) (to : A → B) (xs : List A) → ((x : A) → List·Memᴰ x xs → g (to x) ≡ h x) → keepIf g (map to xs) ≡ map to (keepIf h xs)
   unfolding keepIf
-  kept-map f g h to [] e = refl
-  kept-map f g h to (x ∷ xs) e = go (f x) (h x) (e x (List·Memᴰ·head refl)) (kept-map f g h to xs (λ y m. e y (List·Memᴰ·tail m)))
+  kept-map g h to [] e = refl
+  kept-map g h to (x ∷ xs) e = go (h x) (e x (List·Memᴰ·head refl)) (kept-map g h to xs (λ y m. e y (List·Memᴰ·tail m)))
     where
-      go : (b c : Bool) → g (to x) ≡ c → keepIf g (map to (keepIf f xs)) ≡ map to (keepIf (λ x. f x && h x) xs)
-          → keepIf g (map to (select b (x ∷ keepIf f xs) (keepIf f xs)))
-          ≡ map to (select (b && c) (x ∷ keepIf (λ x. f x && h x) xs) (keepIf (λ x. f x && h x) xs))
-      go false c q ih = ih
-      go true true q ih = ap₂ (λ (t : Bool) (l : List B). select t (to x ∷ l) l) q ih
-      go true false q ih = ap₂ (λ (t : Bool) (l : List B). select t (to x ∷ l) l) q ih
+      go : (c : Bool) → g (to x) ≡ c → keepIf g (map to xs) ≡ map to (keepIf h xs)
+          → select (g (to x)) (to x ∷ keepIf g (map to xs)) (keepIf g (map to xs)) ≡ map to (select c (x ∷ keepIf h xs) (keepIf h xs))
+      go true q ih = ap₂ (λ (t : Bool) (l : List B). select t (to x ∷ l) l) q ih
+      go false q ih = ap₂ (λ (t : Bool) (l : List B). select t (to x ∷ l) l) q ih
 
 flat-map : {A B C : Type 0} (to : B → C) (f : A → List B) (xs : List A) → map to (flatMap f xs) ≡ flatMap (λ x. map to (f x)) xs
 unfolding flatMap
@@ -248,29 +245,30 @@ module _ (t line sheet : List ℕ) (ok : tableFits t ≡ true) where
       ∙ tops-below t ok (rulesetsIn t)
       ∙ ap (λ (n : ℕ). map (pairOf t) (keepIf (isTopRule t) (range 0 n))) (all-begun t ok)
 
-  -- of each prefix, the scene keeps the pairs of the records that the table keeps: their parts are the same
-  with-pairs : (q : List ℕ) → withPrefix (sceneOf t line sheet) q ≡ map (pairOf t) (recordsWith t q)
-  unfolding withPrefix recordsWith topRules
-  with-pairs q =
-      ap (keepIf (hasPrefix (sceneOf t line sheet) q)) top-pairs
-      ∙ kept-map (isTopRule t) (hasPrefix (sceneOf t line sheet) q) (λ i. sameBytes (rulePrefix (ruleParts t i)) q) (pairOf t) (range 0 (recordsIn t))
-      (λ i m. ap (λ (ps : List Part). sameBytes (rulePrefix ps) q) (pair-parts i (omega (arith, range-below 0 (recordsIn t) m))))
-
-  pub found-pairs : (p : List ℕ) → foundPairs (sceneOf t line sheet) p ≡ map (pairOf t) (foundRules t p)
-  unfolding foundPairs foundRules
-  found-pairs p =
-      flat-same (λ j. withPrefix (sceneOf t line sheet) (take j p)) (λ j. map (pairOf t) (recordsWith t (take j p))) (suc (length p)) (λ j l. with-pairs (take j p))
-      ∙ sym (flat-map (pairOf t) (λ j. recordsWith t (take j p)) (range 0 (suc (length p))))
-
   pub top-below : {i : ℕ} → List·Memᴰ i (topRules t) → i < recordsIn t
   unfolding topRules
   top-below m = omega (arith, range-below 0 (recordsIn t) (kept-mem (isTopRule t) (range 0 (recordsIn t)) m .0))
 
+  -- of each prefix, the scene keeps the pairs of the records that the table keeps: their parts are the same
+  with-pairs : (q : List ℕ) → withPrefix (partsOf (sceneOf t line sheet)) (topPairs (sceneOf t line sheet)) q ≡ map (pairOf t) (withPrefix (ruleParts t) (topRules t) q)
+  unfolding withPrefix
+  with-pairs q =
+      ap (keepIf (λ x. sameBytes (rulePrefix (partsOf (sceneOf t line sheet) x)) q)) top-pairs
+      ∙ kept-map (λ x. sameBytes (rulePrefix (partsOf (sceneOf t line sheet) x)) q) (λ i. sameBytes (rulePrefix (ruleParts t i)) q) (pairOf t) (topRules t)
+      (λ i m. ap (λ (ps : List Part). sameBytes (rulePrefix ps) q) (pair-parts i (top-below m)))
+
+  pub found-pairs : (p : List ℕ) → foundPairs (sceneOf t line sheet) p ≡ map (pairOf t) (foundRules t p)
+  unfolding foundIn
+  found-pairs p =
+      flat-same (λ j. withPrefix (partsOf (sceneOf t line sheet)) (topPairs (sceneOf t line sheet)) (take j p)) (λ j. map (pairOf t) (withPrefix (ruleParts t) (topRules t) (take j p)))
+      (suc (length p)) (λ j l. with-pairs (take j p))
+      ∙ sym (flat-map (pairOf t) (λ j. withPrefix (ruleParts t) (topRules t) (take j p)) (range 0 (suc (length p))))
+
   pub found-below : {i : ℕ} (p : List ℕ) → List·Memᴰ i (foundRules t p) → i < recordsIn t
-  unfolding foundRules recordsWith
+  unfolding foundIn withPrefix
   found-below p m =
-      let (j, n) = flat-mem (λ j. recordsWith t (take j p)) (range 0 (suc (length p))) m in
-      omega (arith, range-below 0 (recordsIn t) (kept-mem (λ i. isTopRule t i && sameBytes (rulePrefix (ruleParts t i)) (take j p)) (range 0 (recordsIn t)) n .0))
+      let (j, n) = flat-mem (λ j. withPrefix (ruleParts t) (topRules t) (take j p)) (range 0 (suc (length p))) m in
+      top-below (kept-mem (λ i. sameBytes (rulePrefix (ruleParts t i)) (take j p)) (topRules t) n .0)
 
   -- ---- how many, and how far
 

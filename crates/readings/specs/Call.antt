@@ -1,12 +1,13 @@
 -- The whole call: which number, which fields, which words, for any table, line, sheet, budget and buffer.
 use mathlib.Core.Path.{_≡_}
 use mathlib.Core.Bool.{Bool, true, not, _&&_}
-use mathlib.Core.List.{List, [], _∷_, _++_, map}
+use mathlib.Core.List.{List, [], _∷_, map}
 use mathlib.Core.Option.{Option, none, some}
 use Prim.Native.Nat.{ℕ, _-_}
 use lib.Dec.{leb}
-use lib.ListN.{length, drop}
+use lib.ListN.{length}
 use Rattle.plain.specs.Choice.{select}
+use Rattle.plain.specs.Buffers.{atStart}
 use Rattle.line.specs.Line.{faultAt}
 use Rattle.defs.specs.Table.{tableFits}
 use Rattle.ruledef_map.specs.RuledefMap.{linePrefix}
@@ -37,7 +38,7 @@ stoppedAfter n v b = record { number = n; visits = v; words = 0; place = 0; buff
 abbrev pub written : ℕ → List ℕ → List ℕ → Told
 written v ws b =
     select (leb (length ws) (length b))
-    (record { number = 0; visits = v; words = length ws; place = 0; buffer = ws ++ drop (length ws) b })
+    (record { number = 0; visits = v; words = length ws; place = 0; buffer = atStart ws b })
     (record { number = 9; visits = v; words = length ws; place = 0; buffer = b })
 
 -- 1: no match; else the answer's words

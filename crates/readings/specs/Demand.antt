@@ -1,9 +1,9 @@
 -- Demand 3, over the reading relation: what a call that is not refused by its walk must have told.
 use mathlib.Core.Path.{_≡_}
-use mathlib.Core.Logic.{_↔_}
-use mathlib.Core.List.{List, _++_, List·Memᴰ}
+use mathlib.Core.List.{List, List·Memᴰ}
 use Prim.Native.Nat.{ℕ, _≤_, _<_}
-use lib.ListN.{length, drop}
+use lib.ListN.{length}
+use Rattle.plain.specs.Buffers.{atStart}
 use Rattle.plain.specs.Lists.{Apart}
 use Rattle.readings.specs.Tree.{Tree}
 use Rattle.readings.specs.Scene.{Scene, sceneOf}
@@ -46,7 +46,7 @@ needed best = wordsOf (best .count) (best .trees)
 -- with room for these words, 0: they stand at the buffer's start, and the rest is unchanged; without, 9: nothing is changed
 pub record Tells {s : Scene} (best : Best s) (b : List ℕ) (told : Told) : Type 0 where
   pub words : told .words ≡ length (needed best)
-  pub room : length (needed best) ≤ length b → (told .number ≡ 0) × (told .buffer ≡ needed best ++ drop (length (needed best)) b)
+  pub room : length (needed best) ≤ length b → (told .number ≡ 0) × (told .buffer ≡ atStart (needed best) b)
   pub no-room : length b < length (needed best) → (told .number ≡ 9) × (told .buffer ≡ b)
 
 -- "no match" when no reading exists; else every reading with the greatest exact count, each once, and nothing else

@@ -1,23 +1,19 @@
 -- Prefix lookup as a list of top rules to try: the line's prefixes of length 0 upward, and of each the top rules with that
 -- prefix, in table order.
-use mathlib.Core.Bool.{Bool}
-use mathlib.Core.List.{List, flatMap}
-use Prim.Native.Nat.{ℕ, suc}
-use lib.ListN.{length, take}
-use Rattle.plain.specs.Lists.{range, keepIf}
-use Rattle.ruledef_map.specs.RuledefMap.{rulePrefix, linePrefix, sameBytes}
+use mathlib.Core.List.{List}
+use Prim.Native.Nat.{ℕ}
+use Rattle.defs.specs.declared.ruledef.Part.{Part}
+use Rattle.ruledef_map.specs.RuledefMap.{linePrefix, foundIn}
 use Rattle.readings.specs.Scene.{Scene}
 use Rattle.readings.specs.Plan.{Plan}
 use Rattle.readings.specs.Walk.{Match, topPairs, tries}
 
-abbrev pub hasPrefix : Scene → List ℕ → ℕ × ℕ → Bool
-hasPrefix s q x = sameBytes (rulePrefix (s .parts (x .0) (x .1))) q
+abbrev pub partsOf : Scene → ℕ × ℕ → List Part
+partsOf s x = s .parts (x .0) (x .1)
 
-unfoldable pub withPrefix : Scene → List ℕ → List (ℕ × ℕ)
-withPrefix s q = keepIf (hasPrefix s q) (topPairs s)
-
-unfoldable pub foundPairs : Scene → List ℕ → List (ℕ × ℕ)
-foundPairs s p = flatMap (λ j. withPrefix s (take j p)) (range 0 (suc (length p)))
+-- of the top rules, by ruleset and number
+abbrev pub foundPairs : Scene → List ℕ → List (ℕ × ℕ)
+foundPairs s p = foundIn (partsOf s) (topPairs s) p
 
 unfoldable pub lookup : Scene → Plan (List Match)
 lookup s = tries s (foundPairs s (linePrefix (s .line)))

@@ -18,11 +18,11 @@ use Rattle.plain.specs.Below.{countBelow}
 use Rattle.plain.specs.Buffers.{putAfter}
 use Rattle.plain.specs.Lists.{range, keepIf}
 use Rattle.plain.proofs.Below.{count-none, count-no, count-more, count-most, count-grows, count-next}
-use Rattle.plain.proofs.Lists.{kept-length, kept-more, kept-same, kept-none, flat-more, flat-same, flat-fewer}
+use Rattle.plain.proofs.Lists.{kept-length, kept-more, kept-same, kept-none, kept-both, flat-more, flat-same, flat-fewer}
 use Rattle.plain.proofs.Tests.{tested, not-both, and-left, and-right, and-both}
 use Rattle.defs.specs.Table.{recordsIn, ruleParts}
 use Rattle.defs.specs.Ruledef.{isTopRule}
-use Rattle.ruledef_map.specs.RuledefMap.{rulePrefix, sameBytes, prefixLength, withPrefix, foundRules, markOf, withMark, putRules}
+use Rattle.ruledef_map.specs.RuledefMap.{rulePrefix, sameBytes, prefixLength, topRules, withPrefix, foundIn, foundRules, markOf, withMark, putRules}
 
 -- ---- a loop that keeps rules
 
@@ -234,11 +234,12 @@ module _ (t p marks : List ℕ) (short : length p ≤ 4) (all : (i : ℕ) → i 
   unfolding markOf
   judged i j b e h = ap (λ (n : ℕ). eqb n j) (all i h ∙ ap (λ (x : Bool). select x (prefixLength (ruleParts t i) p) 5) e)
 
-  at-length : (j : ℕ) → j ≤ length p → withMark marks (recordsIn t) j ≡ withPrefix t (take j p)
-  unfolding withMark withPrefix prefixLength
+  at-length : (j : ℕ) → j ≤ length p → withMark marks (recordsIn t) j ≡ withPrefix (ruleParts t) (topRules t) (take j p)
+  unfolding withMark withPrefix prefixLength topRules
   at-length j h =
       kept-same (recordsIn t) (λ i. eqb (getD marks i 0) j) (λ i. isTopRule t i && sameBytes (rulePrefix (ruleParts t i)) (take j p))
       (λ i l. judged i j (isTopRule t i) refl l ∙ by i (isTopRule t i))
+      ∙ sym (kept-both (isTopRule t) (λ i. sameBytes (rulePrefix (ruleParts t i)) (take j p)) (range 0 (recordsIn t)))
     where
       by : (i : ℕ) (b : Bool) → eqb (select b (prefixLength (ruleParts t i) p) 5) j ≡ (b && sameBytes (rulePrefix (ruleParts t i)) (take j p))
       by i true = marks-prefix (rulePrefix (ruleParts t i)) p j (omega arith) h
@@ -254,12 +255,12 @@ module _ (t p marks : List ℕ) (short : length p ≤ 4) (all : (i : ℕ) → i 
 
   -- all marks taken, the rules are the lookup's, in its order
   pub marks-found : marksBelow marks (recordsIn t) 5 ≡ foundRules t p
-  unfolding marksBelow foundRules
+  unfolding marksBelow foundIn
   marks-found =
       let whole : 5 ≡ suc (length p) + (4 - length p) = omega arith in
       ap (λ (n : ℕ). flatMap (withMark marks (recordsIn t)) (range 0 n)) whole
       ∙ flat-fewer (withMark marks (recordsIn t)) (suc (length p)) (4 - length p) (λ j l k. past-length j l (omega arith))
-      ∙ flat-same (withMark marks (recordsIn t)) (λ j. withPrefix t (take j p)) (suc (length p)) (λ j l. at-length j (omega arith))
+      ∙ flat-same (withMark marks (recordsIn t)) (λ j. withPrefix (ruleParts t) (topRules t) (take j p)) (suc (length p)) (λ j l. at-length j (omega arith))
 
 -- the loop's end: every mark is taken
 pub taken-all : (t p marks buffer : List ℕ) (n j m : ℕ) (found : List ℕ) → length p ≤ 4 → n ≡ recordsIn t

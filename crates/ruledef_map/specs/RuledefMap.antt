@@ -52,13 +52,17 @@ prefixLength ps p = select (sameBytes (rulePrefix ps) (take (length (rulePrefix 
 unfoldable pub topRules : List ℕ → List ℕ
 topRules t = keepIf (isTopRule t) (range 0 (recordsIn t))
 
--- the top rules whose prefix is q, in table order
-unfoldable pub withPrefix : List ℕ → List ℕ → List ℕ
-withPrefix t q = keepIf (λ i. isTopRule t i && sameBytes (rulePrefix (ruleParts t i)) q) (range 0 (recordsIn t))
+-- of rules, however they are named, those whose prefix is q, in their order
+unfoldable pub withPrefix : {A : Type 0} → (A → List Part) → List A → List ℕ → List A
+withPrefix parts rules q = keepIf (λ x. sameBytes (rulePrefix (parts x)) q) rules
 
--- lookup tries the line's prefixes of length 0 upward, up to what exists; within one length, table order
-unfoldable pub foundRules : List ℕ → List ℕ → List ℕ
-foundRules t p = flatMap (λ j. withPrefix t (take j p)) (range 0 (suc (length p)))
+-- lookup tries the line's prefixes of length 0 upward, up to what exists; within one length, the rules' order
+unfoldable pub foundIn : {A : Type 0} → (A → List Part) → List A → List ℕ → List A
+foundIn parts rules p = flatMap (λ j. withPrefix parts rules (take j p)) (range 0 (suc (length p)))
+
+-- of the top rules, by their places in the table
+abbrev pub foundRules : List ℕ → List ℕ → List ℕ
+foundRules t p = foundIn (ruleParts t) (topRules t) p
 
 -- what a lookup marks a rule with: its prefix's length if it may match, else 5; and the rules with a mark, in table order
 unfoldable pub markOf : List ℕ → List ℕ → ℕ → ℕ

@@ -31,7 +31,7 @@ steps-apart (Step.Past v) (Step.Stayed w) e = absurd (true≢false (ap (λ (p : 
 steps-apart (Step.Stayed v) (Step.Past w) e = absurd (false≢true (ap (λ (p : Bool × Walker). p .0) e))
 steps-apart (Step.Stayed v) (Step.Stayed w) e = ap (λ (p : Bool × Walker). Step.Stayed (p .1)) e
 
-cuts-apart : (r s : Lookahead) → cutSays r ≡ cutSays s → r ≡ s
+pub cuts-apart : (r s : Lookahead) → cutSays r ≡ cutSays s → r ≡ s
 cuts-apart (Lookahead.At p) (Lookahead.At q) e = ap Lookahead.At (Option·some-inj .0 e)
 cuts-apart (Lookahead.At p) Lookahead.Nothing e = absurd (Option·some-ne-none p e)
 cuts-apart Lookahead.Nothing (Lookahead.At q) e = absurd (Option·none-ne-some q e)

@@ -1,28 +1,30 @@
--- Any two answers that the promises allow are equal, in the C struct's fields and in what was lent: each `answers` is an
--- equation of all of them.
+-- How tight the promises are: any two answers that a contract allows on the same arguments are equal, in the C struct's fields
+-- and in what was lent, as it stands at exit. Each law is stated over the contract itself, `Post`, whose first clause,
+-- `answers`, is an equation of all of them.
 use mathlib.Core.Path.{_≡_}
-use mathlib.Core.Bool.{Bool}
 use mathlib.Core.List.{List}
 use Prim.Native.Nat.{ℕ}
+use denote.Ref.{now}
 use Rattle.plain.proofs.Answers.{one-answer}
-use Rattle.readings.specs.Call.{Told, scanCall, lookupCall}
-use Rattle.resolver.specs.Selection.{Selected, selected}
 use Rattle.tholdrimash.specs.declared.TholdrimashAnswer.{TholdrimashAnswer}
 use Rattle.tholdrimash.specs.declared.TholdrimashSelection.{TholdrimashSelection}
 use Rattle.tholdrimash.specs.Interface.{told, chose}
+use Rattle.tholdrimash.proofs.tholdrimash_match.Reads as match
+use Rattle.tholdrimash.proofs.tholdrimash_lookup.Reads as lookup
+use Rattle.tholdrimash.proofs.tholdrimash_select.Reads as select
 
 same-told : (r s : TholdrimashAnswer) (b c : List ℕ) → told r b ≡ told s c → (r ≡ s) × (b ≡ c)
 same-told r s b c e = (λ i. record { number = e i .number; visits = e i .visits; words = e i .words; place = e i .place }, λ i. e i .buffer)
 
-module _ (t line sheet : List ℕ) (budget : ℕ) (buffer : List ℕ) (r s : TholdrimashAnswer) (b c : List ℕ) where
-  pub match-tight : told r b ≡ scanCall t line sheet budget buffer → told s c ≡ scanCall t line sheet budget buffer → (r ≡ s) × (b ≡ c)
-  match-tight p q = same-told r s b c (one-answer p q)
+same-choice : (r s : TholdrimashSelection) (v w b c : List ℕ) → chose r v b ≡ chose s w c → (r ≡ s) × (v ≡ w) × (b ≡ c)
+same-choice r s v w b c e = (λ i. record { number = e i .number; count = e i .count }, (λ i. e i .words), λ i. e i .buffer)
 
-  pub lookup-tight : told r b ≡ lookupCall t line sheet budget buffer → told s c ≡ lookupCall t line sheet budget buffer → (r ≡ s) × (b ≡ c)
-  lookup-tight p q = same-told r s b c (one-answer p q)
+pub match-tight : (κs a : _) (r s : TholdrimashAnswer) (x y : _) → match.Post κs a r x → match.Post κs a s y → (r ≡ s) × (now (x .1 .1 .1 .1 .0) ≡ now (y .1 .1 .1 .1 .0))
+match-tight κs a r s x y p q = same-told r s _ _ (one-answer (p .0) (q .0))
 
-module _ (ws : List ℕ) (last : Bool) (buffer : List ℕ) (r s : TholdrimashSelection) (v w b c : List ℕ) where
-  pub select-tight : chose r v b ≡ selected ws last buffer → chose s w c ≡ selected ws last buffer → (r ≡ s) × (v ≡ w) × (b ≡ c)
-  select-tight p q =
-      let e : chose r v b ≡ chose s w c = one-answer p q in
-      (λ i. record { number = e i .number; count = e i .count }, (λ i. e i .words), λ i. e i .buffer)
+pub lookup-tight : (κs a : _) (r s : TholdrimashAnswer) (x y : _) → lookup.Post κs a r x → lookup.Post κs a s y → (r ≡ s) × (now (x .1 .1 .1 .1 .0) ≡ now (y .1 .1 .1 .1 .0))
+lookup-tight κs a r s x y p q = same-told r s _ _ (one-answer (p .0) (q .0))
+
+pub select-tight : (κs a : _) (r s : TholdrimashSelection) (x y : _) → select.Post κs a r x → select.Post κs a s y
+    → (r ≡ s) × (now (x .0) ≡ now (y .0)) × (now (x .1 .1 .0) ≡ now (y .1 .1 .0))
+select-tight κs a r s x y p q = same-choice r s _ _ _ _ (one-answer (p .0) (q .0))

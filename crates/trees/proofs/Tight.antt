@@ -1,33 +1,26 @@
--- Any two answers that a promise of this crate allows are equal: each is an equation, of the result or of the result
--- with the lent answer as it stands at exit.
+-- How tight the promises are: any two answers that a function's contract allows on the same arguments are equal. Each law is
+-- stated over the contract itself, `Post`, so a weaker contract breaks it.
 use mathlib.Core.Path.{_≡_}
 use mathlib.Core.Bool.{Bool}
-use mathlib.Core.List.{List, []}
+use mathlib.Core.List.{List}
 use Prim.Native.Nat.{ℕ}
-use lib.ListN.{length}
+use denote.Ref.{now}
 use Rattle.plain.proofs.Answers.{one-answer}
-use Rattle.plain.specs.Buffers.{putAfter}
-use Rattle.readings.specs.Tree.{sameTree}
-use Rattle.readings.specs.Answer.{exactCount, treeWords}
-use Rattle.readings.specs.Scene.{sceneOf}
-use Rattle.pool.specs.Meaning.{entries, treeAt}
+use Rattle.trees.proofs.get_recursive_exact_part_count.Reads as get-recursive-exact-part-count
+use Rattle.trees.proofs.is_same.Reads as is-same
+use Rattle.trees.proofs.tree_words.Reads as tree-words
+use Rattle.trees.proofs.write_tree.Reads as write-tree
 
-module _ (store : List ℕ) (used m : ℕ) where
-  module _ (t : List ℕ) (r s : ℕ) where
-    pub get-recursive-exact-part-count-tight :
-        r ≡ exactCount (sceneOf t [] []) (treeAt (entries store used) m) → s ≡ exactCount (sceneOf t [] []) (treeAt (entries store used) m) → r ≡ s
-    get-recursive-exact-part-count-tight = one-answer
+pub get-recursive-exact-part-count-tight : (κs a : _) (r s : ℕ) (x y : _) → get-recursive-exact-part-count.Post κs a r x → get-recursive-exact-part-count.Post κs a s y → r ≡ s
+get-recursive-exact-part-count-tight κs a r s x y = one-answer
 
-  module _ (n : ℕ) (r s : Bool) where
-    pub is-same-tight :
-        r ≡ sameTree (treeAt (entries store used) m) (treeAt (entries store used) n) → s ≡ sameTree (treeAt (entries store used) m) (treeAt (entries store used) n) → r ≡ s
-    is-same-tight = one-answer
+pub is-same-tight : (κs a : _) (r s : Bool) (x y : _) → is-same.Post κs a r x → is-same.Post κs a s y → r ≡ s
+is-same-tight κs a r s x y = one-answer
 
-  module _ (r s : ℕ) where
-    pub tree-words-tight : r ≡ length (treeWords (treeAt (entries store used) m)) → s ≡ length (treeWords (treeAt (entries store used) m)) → r ≡ s
-    tree-words-tight = one-answer
+pub tree-words-tight : (κs a : _) (r s : ℕ) (x y : _) → tree-words.Post κs a r x → tree-words.Post κs a s y → r ≡ s
+tree-words-tight κs a r s x y = one-answer
 
-  module _ (at : ℕ) (answer : List ℕ) (r s : List ℕ × ℕ) where
-    pub write-tree-tight :
-        r ≡ putAfter at (treeWords (treeAt (entries store used) m)) answer → s ≡ putAfter at (treeWords (treeAt (entries store used) m)) answer → r ≡ s
-    write-tree-tight = one-answer
+-- with the lent answer as it stands at exit
+pub write-tree-tight : (κs a : _) (r s : ℕ) (x y : _) → write-tree.Post κs a r x → write-tree.Post κs a s y
+    → _≡_ {A = List ℕ × ℕ} (now (x .1 .1 .1 .0), r) (now (y .1 .1 .1 .0), s)
+write-tree-tight κs a r s x y = one-answer

@@ -1,5 +1,5 @@
--- What the walk's promise determines: what is returned. Of the store it says what its records mean, and not how they are
--- written or what stands past them.
+-- What the walk's promise determines: what is returned, stated over the contract itself. Of the store it says what its records
+-- mean after a walk that is not refused, and not how they are written or what stands past them; after a refusal, nothing.
 use mathlib.Core.Path.{_≡_, refl, sym, _∙_}
 use mathlib.Core.List.{List}
 use Prim.Native.Nat.{ℕ}
@@ -13,6 +13,7 @@ use Rattle.walk.specs.declared.Refusal.the-variants.{Spent, Deep, Full}
 use Rattle.walk.specs.declared.Walked.{Walked}
 use Rattle.walk.specs.declared.Walked.the-variants.{Done, Stopped}
 use Rattle.walk.specs.Met.{numberOf, Left, went, halted}
+use Rattle.walk.proofs.match_with_rule.Reads as match-with-rule
 
 -- a refusal is known by its number
 same-refusal : (r s : Refusal) → numberOf r ≡ numberOf s → r ≡ s
@@ -26,22 +27,25 @@ same-refusal Full Spent e = absurd (omega arith)
 same-refusal Full Deep e = absurd (omega arith)
 same-refusal Full Full e = refl
 
-pub match-with-rule-tight : {o : Outcome (List Found)} {place : Place} {log : List Record} {a b : List ℕ} {r s : Walked} → Left o place log a r → Left o place log b s → r ≡ s
-match-with-rule-tight (went {left = l} {pool = p} x) (went {left = m} {pool = q} y) =
+same-left : {o : Outcome (List Found)} {place : Place} {log : List Record} {a b : List ℕ} {r s : Walked} → Left o place log a r → Left o place log b s → r ≡ s
+same-left (went {left = l} {pool = p} x) (went {left = m} {pool = q} y) =
     let e = sym (x .done-with) ∙ y .done-with in
     let i : l ≡ m = cc in
     let j : p .used ≡ q .used = cc in
     λ k. Done (i k) (record { used = j k })
-match-with-rule-tight (went x) (halted f) =
+same-left (went x) (halted f) =
     let e = sym (x .done-with) ∙ f in
     let z : _≡_ {A = ℕ} 0 1 = cc in
     absurd (omega arith)
-match-with-rule-tight (halted e) (went y) =
+same-left (halted e) (went y) =
     let f = sym (y .done-with) ∙ e in
     let z : _≡_ {A = ℕ} 0 1 = cc in
     absurd (omega arith)
-match-with-rule-tight (halted {why = v} {left = l} e) (halted {why = w} {left = m} f) =
+same-left (halted {why = v} {left = l} e) (halted {why = w} {left = m} f) =
     let q = sym e ∙ f in
     let i : numberOf v ≡ numberOf w = cc in
     let j : l ≡ m = cc in
     λ k. Stopped (same-refusal v w i k) (j k)
+
+pub match-with-rule-tight : (κs a : _) (r s : Walked) (x y : _) → match-with-rule.Post κs a r x → match-with-rule.Post κs a s y → r ≡ s
+match-with-rule-tight κs a r s x y = same-left

@@ -1,6 +1,6 @@
 -- A top rule that is not over completes no match; any other does, if there is room.
 use mathlib.Core.Logic.{⊎-elim}
-use mathlib.Core.Path.{_≡_, sym, ap, subst, _∙_}
+use mathlib.Core.Path.{_≡_, sym, ap, _∙_}
 use mathlib.Core.Bool.{not}
 use lib.ListN.{length}
 use Rattle.walk.proofs.Ending.{not-over, is-over, finish-short, finish-full, finish-kept}
