@@ -14,7 +14,7 @@ use Rattle.readings.specs.Scene.{Scene, sceneOf}
 use Rattle.readings.specs.Answer.{exactCount, greatestCount, best, treeWords, allWords, wordsOf, answerWords}
 use Rattle.pool.specs.Log.{decode, depthIn}
 use Rattle.pool.specs.Meaning.{treeAt, Stored, entries}
-use Rattle.trees.proofs.Writes.{put-none, put-end, put-more}
+use Rattle.plain.proofs.Buffers.{put-none, put-end, put-more}
 use Rattle.answer.specs.declared.Measure.{Measure}
 use Rattle.answer.specs.Measured.{treesIn, treesTo, measured}
 use Rattle.plain.specs.Buffers.{atStart}

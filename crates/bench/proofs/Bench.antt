@@ -12,7 +12,7 @@ use Rattle.defs.specs.Ruledef.{recordsOf, isTop, rulesetOf}
 use Rattle.ruledef_map.specs.RuledefMap.{leading, rulePrefix, linePrefix, withPrefix, foundIn}
 use Rattle.extents.specs.Sheet.{sized, entryAt, entryFits, fitsAt, rowFits, halfFits, sheetFits, readable, endIn}
 use Rattle.readings.specs.Scene.{sceneOf}
-use Rattle.readings.specs.Plan.{run, each, mapped}
+use Rattle.readings.specs.Plan.{run, _then_, each, mapped}
 use Rattle.readings.specs.Walk.{exactly, lookahead, cutFor, candidates, anySame, fresh, firsts, ends, limits, walk, rulesetWalk, under, trial, tries, topPairs, scan}
 use Rattle.readings.specs.Lookup.{lookup}
 use Rattle.readings.specs.Answer.{exactParts, greatest, greatestCount, best, allWords, wordsOf}

@@ -1,6 +1,7 @@
 pub mod Tests
 pub mod Below
 pub mod Lists
+pub mod Buffers
 pub mod Calls
 pub mod Answers
 pub mod Members

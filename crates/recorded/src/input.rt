@@ -99,7 +99,7 @@ fn number_8() -> u8 {
     if n <= MOST_8 { n as u8 } else { u8::MAX }
 }
 
-fn least(a: usize, b: usize) -> usize
+fn at_most(a: usize, b: usize) -> usize
     ensures { λ r. ⌜ r ≤ b ⌝ }
 {
     if a <= b { a } else { b }
@@ -109,14 +109,14 @@ fn least(a: usize, b: usize) -> usize
 pub fn room(buffer: &[u16], wanted: usize) -> usize
     ensures { λ r. ⌜ Counts r (now (buffer .entry)) ⌝ }
 {
-    least(wanted, buffer.len())
+    at_most(wanted, buffer.len())
 }
 
 // Reads so many words to a table's start, and gives for how many there was room.
 pub fn read_table(table: &mut [u16], wanted: usize) -> usize
     ensures { λ r. ⌜ Counts r (now (table .exit)) ⌝ }
 {
-    let n = least(wanted, table.len());
+    let n = at_most(wanted, table.len());
     let mut i: usize = 0;
     while i < n {
         table[i] = number_16();
@@ -129,7 +129,7 @@ pub fn read_table(table: &mut [u16], wanted: usize) -> usize
 pub fn read_line(line: &mut [u8], wanted: usize) -> usize
     ensures { λ r. ⌜ Counts r (now (line .exit)) ⌝ }
 {
-    let n = least(wanted, line.len());
+    let n = at_most(wanted, line.len());
     let mut i: usize = 0;
     while i < n {
         line[i] = number_8();
@@ -142,7 +142,7 @@ pub fn read_line(line: &mut [u8], wanted: usize) -> usize
 pub fn read_list(list: &mut [u32], wanted: usize) -> usize
     ensures { λ r. ⌜ Counts r (now (list .exit)) ⌝ }
 {
-    let n = least(wanted, list.len());
+    let n = at_most(wanted, list.len());
     let mut i: usize = 0;
     while i < n {
         list[i] = number();
@@ -169,5 +169,5 @@ pub fn read_sheet(sheet: &mut [u8], wanted: usize) -> usize
         left -= 1;
         read_entry(sheet);
     }
-    least(wanted, sheet.len())
+    at_most(wanted, sheet.len())
 }

@@ -22,6 +22,7 @@ use Rattle.syntax.proofs.walker.Walker.next_useful_index.Reads as next-
 use Rattle.syntax.proofs.walker.Walker.maybe_expect_char.Reads as maybe-expect-char
 use Rattle.syntax.proofs.walker.Walker.maybe_expect_whitespace.Reads as maybe-expect-whitespace
 use Rattle.syntax.proofs.walker.Walker.find_lookahead_char_index.Reads as find-lookahead-char-index
+use Rattle.syntax.proofs.walker.least.Reads as least
 
 -- what the cases of an answer say tells them apart
 
@@ -68,3 +69,6 @@ maybe-expect-whitespace-tight κs a r s x y = one-told stepSays steps-apart _ r 
 
 pub find-lookahead-char-index-tight : (κs a : _) (r s : Lookahead) (x y : _) → find-lookahead-char-index.Post κs a r x → find-lookahead-char-index.Post κs a s y → r ≡ s
 find-lookahead-char-index-tight κs a r s x y = one-told cutSays cuts-apart _ r s
+
+pub least-tight : (κs a : _) (r s : ℕ) (x y : _) → least.Post κs a r x → least.Post κs a s y → r ≡ s
+least-tight κs a r s x y = one-answer

@@ -168,8 +168,9 @@ impl Walker {
     }
 }
 
-fn least(a: usize, b: usize) -> usize
-    ensures { λ r. ⌜ r ≡ min a b ⌝ }
+// The lesser of two places.
+pub fn least(a: usize, b: usize) -> usize
+    ensures answers { λ r. ⌜ r ≡ min a b ⌝ }
 {
     if a <= b { a } else { b }
 }

@@ -10,8 +10,9 @@ use pool::Record;
 use pool::Room;
 use syntax::walker::Step;
 use syntax::walker::Walker;
+use syntax::walker::least;
 ghost use mathlib.Core.Path.{_≡_};
-ghost use Prim.Native.Nat.{ℕ, _+_, _<_, _≤_, min};
+ghost use Prim.Native.Nat.{ℕ, _+_, _<_, _≤_};
 ghost use lib.ListN.{length};
 ghost use Rattle.readings.specs.Walk.{anySame, depths, sameMatch};
 ghost use Rattle.pool.specs.Log.{logOf};
@@ -79,12 +80,6 @@ pub enum Walked {
 pub enum Inner {
     Ends(usize),
     Nothing,
-}
-
-fn least(a: usize, b: usize) -> usize
-    ensures { λ r. ⌜ r ≡ min a b ⌝ }
-{
-    if a <= b { a } else { b }
 }
 
 // The end of a pattern. A top rule short of the line's end completes no match.

@@ -8,7 +8,8 @@ use borrow.Fn.PlainCycle.{Measures, is, falls, and}
 use Rattle.trees.specs.Asked.{treeLength}
 use Rattle.trees.proofs.Arguments.{before, nest-earlier}
 use Rattle.trees.proofs.Sizes.{size-before, size-expr}
-use Rattle.trees.proofs.Writes.{words-sized, words-nest, put-end, tree-put, none-put, expr-put, nest-put}
+use Rattle.trees.proofs.Writes.{words-sized, words-nest, tree-put, none-put, expr-put, nest-put}
+use Rattle.plain.proofs.Buffers.{put-end}
 use Rattle.trees.proofs.write_arguments.Reads as a-reads
 use Rattle.trees.proofs.write_arguments.Kinds as a-kinds
 use Rattle.trees.proofs.+write_arguments+write_tree.Lts-write_arguments as A

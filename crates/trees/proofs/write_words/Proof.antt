@@ -1,7 +1,7 @@
 -- Three stores, one after another, are three words put into the answer.
 use lib.ListN.{length-set}
 use native.Mathlib.Omega.{arith}
-use Rattle.trees.proofs.Writes.{put-three}
+use Rattle.plain.proofs.Buffers.{put-three}
 use borrow.Author.Needs.{needs}
 use Rattle.trees.proofs.write_words.Statement.{statement}
 use Rattle.trees.proofs.write_words.Tie as tie

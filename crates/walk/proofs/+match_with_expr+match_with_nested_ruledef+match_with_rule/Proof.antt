@@ -28,7 +28,7 @@ use Rattle.walk.proofs.Place.after.Reads as after
 use Rattle.walk.proofs.Place.past.Reads as past
 use Rattle.walk.proofs.finish.Reads as finish
 use Rattle.walk.proofs.inner_match.Reads as inner-match
-use Rattle.walk.proofs.least.Reads as least
+use Rattle.syntax.proofs.walker.least.Reads as least
 use Rattle.pool.proofs.Pool.keep.Reads as keep
 use Rattle.syntax.proofs.walker.Walker.maybe_expect_char.Reads as maybe-expect-char
 use Rattle.syntax.proofs.walker.Walker.maybe_expect_whitespace.Reads as maybe-expect-whitespace

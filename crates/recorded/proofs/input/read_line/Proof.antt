@@ -13,8 +13,8 @@ Inv-loop line₀ wanted n i₀ line i = length line ≡ length line₀
 abbrev μ-loop : tie.MeasureT-loop
 μ-loop line₀ wanted n i₀ line i = n - i
 
-least-requires : tie.Need-least-requires Inv-loop μ-loop
-least-requires c κs = search needs
+at-most-requires : tie.Need-at-most-requires Inv-loop μ-loop
+at-most-requires c κs = search needs
 
 loop-holds : tie.Need-loop-holds Inv-loop μ-loop
 loop-holds c = search needs
@@ -46,7 +46,7 @@ read-line-spec =
     (tie.spec
     Inv-loop
     μ-loop
-    least-requires
+    at-most-requires
     loop-holds
     number-8-requires
     slice-write-line

@@ -13,8 +13,8 @@ Inv-loop table₀ wanted n i₀ table i = length table ≡ length table₀
 abbrev μ-loop : tie.MeasureT-loop
 μ-loop table₀ wanted n i₀ table i = n - i
 
-least-requires : tie.Need-least-requires Inv-loop μ-loop
-least-requires c κs = search needs
+at-most-requires : tie.Need-at-most-requires Inv-loop μ-loop
+at-most-requires c κs = search needs
 
 loop-holds : tie.Need-loop-holds Inv-loop μ-loop
 loop-holds c = search needs
@@ -49,7 +49,7 @@ read-table-spec =
     (tie.spec
     Inv-loop
     μ-loop
-    least-requires
+    at-most-requires
     loop-holds
     number-16-requires
     mul-table
