@@ -4,7 +4,7 @@ use crate::cases;
 use crate::model;
 use crate::random::Random;
 use crate::report::Report;
-use crate::sides::{self, Moves, Place, Walker};
+use crate::sides::{self, Moves, Place, Walker, Walkers};
 
 /// The walker held to its line, as document 01 says.
 fn held(line: &[u8], w: Walker) -> Walker {
@@ -53,13 +53,35 @@ fn moves(report: &mut Report, line: &[u8], w: Walker, wanted: u8) {
     }
 }
 
-fn walkers(report: &mut Report, line: &[u8], w: Walker, end: usize) {
+/// The moves to another place and to another limit: each holds the walker first, and then what it has moved.
+fn walkers(report: &mut Report, line: &[u8], w: Walker, place: usize, end: usize) {
     let here = held(line, w);
-    let limited = held(line, Walker { limit: end, ..here });
-    let told = sides::proved_walkers(line, w, end);
-    report.see("walkers held, and with another limit", true);
-    if told != (here, here.cursor, limited) {
-        report.differ(format!("{w:?} with limit {end}: proved {told:?}"));
+    let at_place = Walker { cursor: place, ..here };
+    let with_end = Walker { limit: end, ..here };
+    let expected = Walkers {
+        tested: here.cursor,
+        at_place: held(line, at_place),
+        with_end: held(line, with_end),
+    };
+    let told = sides::proved_walkers(line, w, place, end);
+    report.see("walkers at another place, and with another limit", true);
+    // Where the first holding shows: a cursor past its limit, and then a later limit.
+    let unheld = held(line, Walker { limit: end, ..w });
+    report.see("  holding first decides", unheld != expected.with_end);
+    report.see("  a place past the limit held", at_place != expected.at_place);
+    report.see(
+        "  a limit past the line held",
+        with_end.limit != expected.with_end.limit,
+    );
+    report.see(
+        "  a cursor past the new limit held",
+        here.cursor != expected.with_end.cursor,
+    );
+    if told != expected {
+        report.differ(format!(
+            "{} bytes, {w:?}, place {place}, limit {end}: proved {told:?}, document 01 {expected:?}",
+            line.len()
+        ));
     }
 }
 
@@ -72,6 +94,26 @@ pub fn short_lines(report: &mut Report) {
             for cursor in 0..=limit {
                 for wanted in bytes {
                     moves(report, &line, Walker { cursor, limit }, *wanted);
+                }
+            }
+        }
+    }
+}
+
+/// Lines of at most four bytes; every cursor and limit inside, at and past their ends; every such place and end. These moves
+/// look at no byte.
+pub fn short_walkers(report: &mut Report) {
+    for n in 0..=4 {
+        let line = &b"a +("[..n];
+        let places: Vec<usize> = (0..=n + 2).chain([1 << 32, usize::MAX - 1, usize::MAX]).collect();
+        for limit in &places {
+            for cursor in &places {
+                for to in &places {
+                    let w = Walker {
+                        cursor: *cursor,
+                        limit: *limit,
+                    };
+                    walkers(report, line, w, *to, *to);
                 }
             }
         }
@@ -105,9 +147,11 @@ pub fn random_lines(report: &mut Report, seed: u64, cases: u64) {
             limit: place(random),
         };
         let end = place(random);
-        walkers(report, &line, w, end);
         moves(report, &line, w, *random.pick(alphabet));
         moves(report, &line, held(&line, w), *random.pick(alphabet));
+        // Drawn last: what is drawn before it stays the same for a seed.
+        let other = place(random);
+        walkers(report, &line, w, other, end);
     }
 }
 

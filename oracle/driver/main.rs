@@ -71,6 +71,7 @@ fn walker(report: &mut Report, args: &Args) {
     if !args.quick {
         ground::all_bytes(report);
         ground::short_lines(report);
+        ground::short_walkers(report);
     }
     ground::random_lines(report, args.seed, args.cases);
 }

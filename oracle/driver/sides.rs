@@ -28,7 +28,7 @@ pub struct Place {
 
 #[link(name = "probe", kind = "static")]
 extern "C" {
-    fn probe_hold(line: *const u8, len: usize, cursor: usize, limit: usize) -> Walker;
+    fn probe_set_cursor_index(line: *const u8, len: usize, cursor: usize, limit: usize, place: usize) -> Walker;
     fn probe_set_cursor_limit(line: *const u8, len: usize, cursor: usize, limit: usize, end: usize) -> Walker;
     fn probe_is_over(line: *const u8, len: usize, cursor: usize, limit: usize) -> bool;
     fn probe_next_useful_index(line: *const u8, len: usize, cursor: usize, limit: usize) -> usize;
@@ -236,15 +236,23 @@ pub fn proved_moves(line: &[u8], w: Walker, wanted: u8) -> Moves {
     }
 }
 
-/// The walker that the whitespace part's test hands back, and the one with another limit.
-pub fn proved_walkers(line: &[u8], w: Walker, end: usize) -> (Walker, usize, Walker) {
+/// The walkers at another place and with another limit.
+#[derive(Debug, PartialEq)]
+pub struct Walkers {
+    /// The cursor that the whitespace part's test hands back: it moves nothing, so only holding changes it.
+    pub tested: usize,
+    pub at_place: Walker,
+    pub with_end: Walker,
+}
+
+pub fn proved_walkers(line: &[u8], w: Walker, place: usize, end: usize) -> Walkers {
     let (at, len) = (line.as_ptr(), line.len());
     unsafe {
-        (
-            probe_hold(at, len, w.cursor, w.limit),
-            probe_maybe_expect_whitespace(at, len, w.cursor, w.limit).place,
-            probe_set_cursor_limit(at, len, w.cursor, w.limit, end),
-        )
+        Walkers {
+            tested: probe_maybe_expect_whitespace(at, len, w.cursor, w.limit).place,
+            at_place: probe_set_cursor_index(at, len, w.cursor, w.limit, place),
+            with_end: probe_set_cursor_limit(at, len, w.cursor, w.limit, end),
+        }
     }
 }
 
