@@ -17,7 +17,7 @@ use Rattle.pool.specs.declared.Record.{Record}
 use Rattle.pool.specs.declared.Record.the-variants.{Kept, Completed}
 use Rattle.pool.specs.declared.Pool.{Pool}
 use Rattle.pool.specs.declared.Room.the-variants.{Taken, Full}
-use Rattle.pool.specs.Log.{codeOf, kindOf, argumentOf, matchOf, decode, logOf, ArgumentFits, MatchFits, Fits, wordOf, taken, TakenBy, Digits, nothing}
+use Rattle.pool.specs.Log.{codeOf, kindOf, argumentOf, matchOf, decode, logOf, ArgumentFits, MatchFits, Fits, encode, taken, TakenBy, Digits, nothing}
 
 -- ---- kinds
 
@@ -126,7 +126,7 @@ log-none store = refl
 -- ---- a record taken
 
 -- what fits a word is what it was
-decoded : (x : Record) → Fits x → decode (wordOf x) ≡ x
+decoded : (x : Record) → Fits x → decode (encode x) ≡ x
 decoded (Kept a p) f = decode-argument a p (codeOf (a .kind)) refl f
 decoded (Completed d r k a e) f = decode-match d r k a e f
 
@@ -135,7 +135,7 @@ module _ (store : List ℕ) (used : ℕ) (x : Record) where
   unfolding taken
   taken-full e = record { is = rw (taken, eq-eqb used 4096 e); log = e }
 
-  pub taken-next : length store ≡ 4096 → used ≤ 4096 → (used ≡ 4096 → ⊥) → Fits x → (w : ℕ) → w ≡ wordOf x → (p : Pool) → p ≡ record { used = used + 1 }
+  pub taken-next : length store ≡ 4096 → used ≤ 4096 → (used ≡ 4096 → ⊥) → Fits x → (w : ℕ) → w ≡ encode x → (p : Pool) → p ≡ record { used = used + 1 }
       → TakenBy used store (set store used w) x (Taken p)
   unfolding taken
   taken-next sized few more f w e p next = record {

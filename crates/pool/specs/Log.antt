@@ -65,13 +65,13 @@ Fits (Kept a p) = ArgumentFits a p
 Fits (Completed d r k a e) = MatchFits d r k a e
 
 -- a record as a word
-abbrev pub wordOf : Record → ℕ
-wordOf (Kept a p) = 2 * (p + 8192 * (a .start + 128 * (a .end + 128 * codeOf (a .kind))))
-wordOf (Completed d r k a e) = 1 + 2 * (d + 32 * (r + 32 * (k + 512 * (a + 8192 * e))))
+abbrev pub encode : Record → ℕ
+encode (Kept a p) = 2 * (p + 8192 * (a .start + 128 * (a .end + 128 * codeOf (a .kind))))
+encode (Completed d r k a e) = 1 + 2 * (d + 32 * (r + 32 * (k + 512 * (a + 8192 * e))))
 
 -- the next word of the store, unless there is no room
 unfoldable pub taken : ℕ → List ℕ → Record → List ℕ × Room
-taken used store x = select (eqb used room) (store, Full) (set store used (wordOf x), Taken (record { used = used + 1 }))
+taken used store x = select (eqb used room) (store, Full) (set store used (encode x), Taken (record { used = used + 1 }))
 
 -- a record is taken, the next of the log, or there is no room
 pub record Added (used : ℕ) (store store′ : List ℕ) (x : Record) (p : Pool) : Type 0 where

@@ -184,7 +184,8 @@ pub fn match_with_rule(
 {
     let mut left = visits;
     let mut at = place.at;
-    let mut here = walker;
+    // Held once, so that the compiler need not hold the limit anew at each part.
+    let mut here = walker.set_cursor_index(line, walker.get_cursor_index());
     let end = place.end;
     loop {
         if left == 0 {
