@@ -1,4 +1,5 @@
 -- What an accepted table says, as plain data: rulesets of rules of parts.
+-- In words: docs/MANUAL.md, 2.2.
 use mathlib.Core.Bool.{Bool}
 use mathlib.Core.List.{List, map}
 use Prim.Native.Nat.{ℕ, zero, suc, _+_}

@@ -1,4 +1,5 @@
 -- The packed table: where its words stand, and when it is accepted. Words are read by place; past the end is 0.
+-- In words: docs/MANUAL.md, 2.2.
 use mathlib.Core.Bool.{Bool, true, false, not, _&&_, _||_}
 use mathlib.Core.List.{List, map}
 use Prim.Native.Nat.{ℕ, zero, suc, _+_, _*_, _-_, min}

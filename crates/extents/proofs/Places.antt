@@ -6,7 +6,7 @@ use Prim.Native.Nat.{ℕ, _+_, _*_, _≤_, _<_}
 use native.Mathlib.Nat.{mul-le-mul-right, add-mul, one-mul}
 use native.Mathlib.Omega.{arith}
 use lib.ListN.{length}
-use Rattle.extents.specs.Sheet.{Within, placeOf}
+use Rattle.extents.specs.Sheet.{HasEntry, placeOf}
 use Rattle.extents.specs.declared.Half.{Half}
 use Rattle.extents.specs.declared.Half.the-variants.{Free, Greedy}
 use Rattle.extents.proofs.Size.{sized-length, longer}
@@ -48,7 +48,7 @@ pub record Placed (sheet : List ℕ) (n c l : ℕ) : Type 0 where
   -- the two halves are the sheet
   pub halves : length sheet ≡ 2 * ((n + 1) * (n + 1))
 
-pub placed : {sheet : List ℕ} {n c l : ℕ} → Within sheet n c l → Placed sheet n c l
+pub placed : {sheet : List ℕ} {n c l : ℕ} → HasEntry sheet n c l → Placed sheet n c l
 placed {sheet} {n} {c} {l} w =
     record {
       line = longer sheet n (w .size);

@@ -1,5 +1,6 @@
 -- The extent sheet of a line of n bytes: "2(n+1)² bytes: free ends, then greedy decimal ends. The entry for start c and
 -- limit l is at c(n+1)+l in its half: 255 for none, else from c to l." When a sheet is good, and the ends that it gives.
+-- In words: docs/MANUAL.md, 2.3.
 use mathlib.Core.Path.{_≡_}
 use mathlib.Core.Bool.{Bool, true, _&&_, _||_}
 use mathlib.Core.List.{List}
@@ -19,7 +20,7 @@ unfoldable pub sized : List ℕ → ℕ → Bool
 sized sheet n = eqb (length sheet) (2 * ((n + 1) * (n + 1)))
 
 -- a start and a limit for which the sheet of a line of n bytes has an entry
-pub record Within (sheet : List ℕ) (n c l : ℕ) : Type 0 where
+pub record HasEntry (sheet : List ℕ) (n c l : ℕ) : Type 0 where
   pub size : sized sheet n ≡ true
   pub start : c ≤ n
   pub limit : l ≤ n

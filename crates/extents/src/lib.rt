@@ -4,7 +4,7 @@
 ghost use mathlib.Core.Path.{_≡_};
 ghost use mathlib.Core.Bool.{true, not};
 ghost use Prim.Native.Nat.{_≤_};
-ghost use Rattle.extents.specs.Sheet.{sized, Within, entryAt, entryFits, rowFits, halfFits, sheetFits};
+ghost use Rattle.extents.specs.Sheet.{sized, HasEntry, entryAt, entryFits, rowFits, halfFits, sheetFits};
 ghost use Rattle.extents.specs.Held.{HeldPlaces};
 ghost use Rattle.extents.specs.Sheet.{entryEnd, endIn, freeEnd, greedyEnd, endOf};
 
@@ -47,7 +47,7 @@ fn is_sized(sheet: &[u8], n: usize) -> bool
 
 // The entry of a half for start c and limit l.
 fn entry(sheet: &[u8], n: usize, half: Half, c: usize, l: usize) -> u8
-    requires place { ⌜ Within (now sheet) n c l ⌝ }
+    requires place { ⌜ HasEntry (now sheet) n c l ⌝ }
     ensures byte { λ r. ⌜ r ≡ entryAt (now (sheet .entry)) n half c l ⌝ }
 {
     let side = n + 1;

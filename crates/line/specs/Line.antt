@@ -1,4 +1,5 @@
 -- What a line is, and the place that number 3 returns for what is none.
+-- In words: docs/MANUAL.md, 2.1.
 use mathlib.Core.Path.{_≡_}
 use mathlib.Core.Bool.{Bool, true, false, not, _&&_, _||_}
 use mathlib.Core.List.{List, [], _∷_}

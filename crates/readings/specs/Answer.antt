@@ -1,4 +1,5 @@
 -- What comes out of a walk: exact counts, the greatest-count cut, and the answer as words.
+-- In words: docs/MANUAL.md, 4 and 7.2.
 use mathlib.Core.Bool.{Bool, true, false}
 use mathlib.Core.List.{List, [], _∷_, _++_, map}
 use Prim.Native.Nat.{ℕ, suc, _+_, max}

@@ -1,4 +1,5 @@
 -- The whole call: which number, which fields, which words, for any table, line, sheet, budget and buffer.
+-- In words: docs/MANUAL.md, 7 and 8.
 use mathlib.Core.Path.{_≡_}
 use mathlib.Core.Bool.{Bool, true, not, _&&_}
 use mathlib.Core.List.{List, [], _∷_, map}

@@ -1,4 +1,5 @@
 -- Demand 3, over the reading relation: what a call that is not refused by its walk must have told.
+-- In words: docs/MANUAL.md, 4 and 6.
 use mathlib.Core.Path.{_≡_}
 use mathlib.Core.List.{List, List·Memᴰ}
 use Prim.Native.Nat.{ℕ, _≤_, _<_}

@@ -1,5 +1,6 @@
 -- Prefix lookup as a list of top rules to try: the line's prefixes of length 0 upward, and of each the top rules with that
 -- prefix, in table order.
+-- In words: docs/MANUAL.md, 6.
 use mathlib.Core.List.{List}
 use Prim.Native.Nat.{ℕ}
 use Rattle.defs.specs.declared.ruledef.Part.{Part}

@@ -1,5 +1,6 @@
 -- What a walk does, in order: visits, pool records, and how it ends. `run` counts them against the visits left and the
 -- pool's room, and is the only place where numbers 6, 7 and 8 arise.
+-- In words: docs/MANUAL.md, 5.
 use mathlib.Core.Path.{_≡_}
 use mathlib.Core.Bool.{Bool, true, false}
 use mathlib.Core.List.{List, [], _∷_, _++_, map}

@@ -1,5 +1,6 @@
 -- What a reading is: document 01's "Steps of a reading" as permissions, with no search, no depth bound and no dropping of
 -- equal matches. It rests on the declared useful place and cut.
+-- In words: docs/MANUAL.md, 3 and 4.
 use mathlib.Core.Path.{_≡_}
 use mathlib.Core.Logic.{_⊎_}
 use mathlib.Core.Bool.{true}

@@ -1,6 +1,7 @@
 -- The walk, from the Rust's functions and in their order, depth first: rule walk, expression step, nested step. It is
 -- structural: the rule walk recurses on the remaining parts, the nested step takes the walk below it as a parameter, and
 -- `under` recurses on the depths that are left.
+-- In words: docs/MANUAL.md, 5.
 use mathlib.Core.Bool.{Bool, true, false, _||_}
 use mathlib.Core.List.{List, [], _∷_, _++_, map, flatMap}
 use mathlib.Core.Option.{Option, none, some}

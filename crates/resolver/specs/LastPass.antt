@@ -1,6 +1,7 @@
 -- Demand 3 on the last pass: "on the last pass a well-formed list with room chooses exactly when one known size is
 -- least and only one outcome has it; otherwise it is 11, 12 or 13". Said of the outcomes, with no search for the
 -- least.
+-- In words: docs/MANUAL.md, 9.2.
 use mathlib.Core.Path.{_≡_}
 use mathlib.Core.Logic.{_⊎_}
 use mathlib.Core.Bool.{Bool, true}

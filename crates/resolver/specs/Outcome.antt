@@ -1,6 +1,7 @@
 -- Outcomes as plain data, and the words that stand for them. "Up to 4,096 outcome words of 32 bits: guess + 2·kind +
 -- 8·size. Kinds: 0 unresolved, 1 failed constraint, 2 resolved but unknown, 3 sized. Size is 0 to 65,535, and 0 unless
 -- sized. An unresolved word is exactly 0 and counts as a guess. Kinds 2 and 3 are resolved; kind 3 is known."
+-- In words: docs/MANUAL.md, 9.1.
 use mathlib.Core.Bool.{Bool, true, false, not, _||_}
 use mathlib.Core.List.{List, map}
 use mathlib.Core.Option.{Option, none, some}

@@ -3,6 +3,7 @@
 -- ascending. On a guessing pass all are returned; on the last pass two or more are 13. Order: 10, 11, 12, 13, 14. On 0
 -- the indices are written as 16-bit numbers at the buffer's start, the rest unchanged, and the count returned. Marks
 -- are made on 0 and 13 only."
+-- In words: docs/MANUAL.md, 9.2 and 9.3.
 use mathlib.Core.Bool.{Bool, false, _&&_}
 use mathlib.Core.List.{List, [], _∷_, map}
 use mathlib.Core.Option.{Option, none, some}

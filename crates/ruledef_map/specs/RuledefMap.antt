@@ -1,4 +1,5 @@
 -- The prefix map: a rule's prefix, a line's prefix, and the rules to try, in their order.
+-- In words: docs/MANUAL.md, 6.
 use mathlib.Core.Bool.{Bool, true, false, _&&_}
 use mathlib.Core.List.{List, [], _∷_, map, flatMap}
 use Prim.Native.Nat.{ℕ, suc}

@@ -25,7 +25,7 @@ use Rattle.syntax.specs.declared.walker.Walker.{Walker}
 use Rattle.syntax.specs.declared.walker.Search.{Search}
 use Rattle.syntax.specs.declared.walker.Turn.{Turn}
 use Rattle.syntax.specs.declared.walker.Turn.the-variants as Turn
-use Rattle.syntax.proofs.Useful.{Within}
+use Rattle.syntax.proofs.Useful.{InLine}
 use Rattle.syntax.proofs.Turns.{turn-wanted, turn-stray, turn-on}
 
 -- ---- the scan's steps
@@ -119,7 +119,7 @@ module _ (o e : ℕ) (apart : o ≡ e → ⊥) where
 distinct : (m n : ℕ) → eqb m n ≡ false → m ≡ n → ⊥
 distinct m n t = eqb-false m n t
 
-module _ (line : List ℕ) (x : ℕ) (w : Walker) (within : Within line w) where
+module _ (line : List ℕ) (x : ℕ) (w : Walker) (within : InLine line w) where
   abbrev c : ℕ
   c = w .cursor
 
@@ -243,7 +243,7 @@ cut-one line x w p q a b = ordered (decLt p q) (decLt q p)
     ordered (no h) (no k) = omega (arith, h, k)
 
 -- so the search and the description are the same
-pub cut-at : (line : List ℕ) (x : ℕ) (w : Walker) → Within line w → (p : ℕ) → (cut line x w ≡ some p) ↔ CutAt line x w p
+pub cut-at : (line : List ℕ) (x : ℕ) (w : Walker) → InLine line w → (p : ℕ) → (cut line x w ≡ some p) ↔ CutAt line x w p
 cut-at line x w within p = (
   (λ e. subst (Cuts line x w) e (cut-is line x w within)),
   (λ q. go (cut line x w) (cut-is line x w within) q),

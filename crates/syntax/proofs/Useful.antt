@@ -74,18 +74,18 @@ module _ (line : List ℕ) (l : ℕ) (fits : l ≤ length line) where
       (tested (isWhitespace (byteAt line c)))
 
 -- a walker within its line
-abbrev pub Within : List ℕ → Walker → Type 0
-Within line w = (w .cursor ≤ w .limit) × (w .limit ≤ length line)
+abbrev pub InLine : List ℕ → Walker → Type 0
+InLine line w = (w .cursor ≤ w .limit) × (w .limit ≤ length line)
 
-pub held-within : (line : List ℕ) (w : Walker) → Within line (held line w)
+pub held-within : (line : List ℕ) (w : Walker) → InLine line (held line w)
 unfolding held
 held-within line w = (omega arith, omega arith)
 
-pub held-is-within : (line : List ℕ) (w v : Walker) → v ≡ held line w → Within line v
-held-is-within line w v e = subst (Within line) (sym e) (held-within line w)
+pub held-is-within : (line : List ℕ) (w v : Walker) → v ≡ held line w → InLine line v
+held-is-within line w v e = subst (InLine line) (sym e) (held-within line w)
 
 -- holding a walker that is within its line changes nothing
-pub held-same : (line : List ℕ) (w : Walker) → Within line w → held line w ≡ w
+pub held-same : (line : List ℕ) (w : Walker) → InLine line w → held line w ≡ w
 unfolding held
 held-same line w h =
     let l : min (w .limit) (length line) ≡ w .limit = omega arith in
@@ -93,18 +93,18 @@ held-same line w h =
     λ i. record { cursor = c i; limit = l i }
 
 -- so a walker within its line moves to a place below its limit, and takes a limit between its place and the line's end
-pub index-set : (line : List ℕ) (w : Walker) (at : ℕ) → Within line w → at ≤ w .limit
+pub index-set : (line : List ℕ) (w : Walker) (at : ℕ) → InLine line w → at ≤ w .limit
     → movedTo line at (held line w) ≡ record { cursor = at; limit = w .limit }
 unfolding movedTo
 index-set line w at h k = ap (movedTo line at) (held-same line w h) ∙ held-same line _ (k, h .1)
 
-pub limit-set : (line : List ℕ) (w : Walker) (end : ℕ) → Within line w → w .cursor ≤ end → end ≤ length line
+pub limit-set : (line : List ℕ) (w : Walker) (end : ℕ) → InLine line w → w .cursor ≤ end → end ≤ length line
     → limited line end (held line w) ≡ record { cursor = w .cursor; limit = end }
 unfolding limited
 limit-set line w end h k l = ap (limited line end) (held-same line w h) ∙ held-same line _ (k, l)
 
 -- the scan finds the useful place
-pub useful-is : (line : List ℕ) (w : Walker) → Within line w → UsefulPlace line w (useful line w)
+pub useful-is : (line : List ℕ) (w : Walker) → InLine line w → UsefulPlace line w (useful line w)
 unfolding useful
 useful-is line w h = placed line (w .limit) (h .1) (w .limit - w .cursor) (w .cursor) (omega arith)
 

@@ -1,4 +1,5 @@
 -- The cut: where the line is limited for a parameter that a lookahead character follows.
+-- In words: docs/MANUAL.md, 3.4.
 use mathlib.Core.Path.{_≡_}
 use mathlib.Core.Bool.{Bool, true, false, _&&_, _||_}
 use mathlib.Core.List.{List, [], _∷_}

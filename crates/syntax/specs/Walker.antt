@@ -1,5 +1,6 @@
 -- The walker's moves. A walker is held to its line first: these definitions speak of one whose cursor is at most its
 -- limit, and whose limit is at most the line's length.
+-- In words: docs/MANUAL.md, 3.
 use mathlib.Core.Path.{_≡_}
 use mathlib.Core.Bool.{Bool, true, false, _&&_, _||_}
 use mathlib.Core.List.{List, [], _∷_}

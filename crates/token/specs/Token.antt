@@ -1,4 +1,5 @@
 -- Bytes: whitespace, the lower-case partner, and the class that the table holds.
+-- In words: docs/MANUAL.md, 2.1.
 use mathlib.Core.Bool.{Bool, not, _&&_, _||_}
 use Prim.Native.Nat.{ℕ, _+_, _*_}
 use lib.Dec.{eqb, leb}

@@ -7,7 +7,7 @@ use lib.ListN.{length}
 use borrow.Author.Needs.{needs}
 use borrow.Fn.Kinds.{In}
 use borrow.Fn.PlainCycle.{Measures, is, falls, and}
-use Rattle.walk.proofs.Places.{Along, along-start, along-stored, along-spent, along-end, along-exact, along-no-exact, along-whitespace, along-no-whitespace, along-expression, along-nested, step-ready, ruleset-few}
+use Rattle.walk.proofs.Places.{begun-ready, begun-left, Along, along-start, along-stored, along-spent, along-end, along-exact, along-no-exact, along-whitespace, along-no-whitespace, along-expression, along-nested, step-ready, ruleset-few}
 use Rattle.walk.proofs.Exprs.{ExprDid, expr-start, expr-end, expr-fits, expr-full, expr-ready, expr-again, expr-halt, ends-three}
 use Rattle.walk.proofs.Rules.{RulesDid, LimitsDid, starts-long, starts-ordered, starts-few, rule-ready, rules-again, rules-stop, rules-start, limits-start, limits-again, limits-stop, limits-two, inner-within}
 use Rattle.walk.proofs.Nests.{NestDid, nest-start, nest-skip, nest-fits, nest-member, nest-full, nest-ready, nest-again, nest-halt, nest-used, nested-deep, nested-stop, nested-grown, nested-within, nested-halt, nested-done}
@@ -32,6 +32,7 @@ use Rattle.syntax.proofs.walker.least.Reads as least
 use Rattle.pool.proofs.Pool.keep.Reads as keep
 use Rattle.syntax.proofs.walker.Walker.maybe_expect_char.Reads as maybe-expect-char
 use Rattle.syntax.proofs.walker.Walker.maybe_expect_whitespace.Reads as maybe-expect-whitespace
+use Rattle.syntax.proofs.walker.Walker.get_cursor_index.Reads as get-cursor-index
 use Rattle.syntax.proofs.walker.Walker.next_useful_index.Reads as next-useful-index
 use Rattle.syntax.proofs.walker.Walker.set_cursor_index.Reads as set-cursor-index
 use Rattle.syntax.proofs.walker.Walker.set_cursor_limit.Reads as set-cursor-limit
@@ -73,7 +74,7 @@ abbrev n-calls : ℕ → N.Claims
 n-calls t = (next-useful-index.Asked, next-useful-index.Learnt, find-limits.Asked, find-limits.Learnt, set-cursor-limit.Asked, set-cursor-limit.Learnt, parts-of.Asked, parts-of.Learnt, r-below t, rule.Post, inner-match.Asked, inner-match.Learnt, least.Asked, least.Learnt, keep.Asked, keep.Learnt, after.Asked, after.Learnt, set-cursor-index.Asked, set-cursor-index.Learnt)
 
 abbrev r-calls : ℕ → R.Claims
-r-calls t = (finish.Asked, finish.Learnt, part-at.Asked, part-at.Learnt, maybe-expect-char.Asked, maybe-expect-char.Learnt, maybe-expect-whitespace.Asked, maybe-expect-whitespace.Learnt, past.Asked, past.Learnt, e-below t, expr.Post, n-below t, nested.Post)
+r-calls t = (get-cursor-index.Asked, get-cursor-index.Learnt, set-cursor-index.Asked, set-cursor-index.Learnt, finish.Asked, finish.Learnt, part-at.Asked, part-at.Learnt, maybe-expect-char.Asked, maybe-expect-char.Learnt, maybe-expect-whitespace.Asked, maybe-expect-whitespace.Learnt, past.Asked, past.Learnt, e-below t, expr.Post, n-below t, nested.Post)
 
 abbrev e-Inv : E.InvT-loop
 e-Inv table line sheet starts store₀ place walker visits useful ends left₀ has₀ i₀ store left has i =
@@ -698,10 +699,18 @@ n-returns-5 t c =
     let c-loop3-test = c .loop3-test in
     nested-done (c-pre .1 .0) _ _ (c-pre .1 .1) (c-if1 .left) _ _ refl refl _ (c-next-useful-index .ensures) _ (c-find-limits .ensures) (c-loop .inv) (c-loop-test .left) _ (c-loop3 .inv) (c-loop3-test .left)
 
+r-get-cursor-index-requires : (t : ℕ) → R.Need-get-cursor-index-requires (r-calls t) (r-at t) rule.Post r-Inv r-μ
+r-get-cursor-index-requires t c κs = search needs
+
+r-set-cursor-index-requires : (t : ℕ) → R.Need-set-cursor-index-requires (r-calls t) (r-at t) rule.Post r-Inv r-μ
+r-set-cursor-index-requires t c κs = search needs
+
 r-loop-holds : (t : ℕ) → R.Need-loop-holds (r-calls t) (r-at t) rule.Post r-Inv r-μ
 r-loop-holds t c =
-    let c-pre = c .before .before .before .before .before .pre in
-    along-start (c-pre .1) _
+    let c-pre = c .before .before .before .before .before .before .before .pre in
+    let c-get-cursor-index = c .before .get-cursor-index in
+    let c-set-cursor-index = c .set-cursor-index in
+    along-start (begun-ready (c-pre .1) (c-get-cursor-index .ensures) (c-set-cursor-index .ensures)) _
 
 r-same-length : (t : ℕ) → R.Need-same-length (r-calls t) (r-at t) rule.Post r-Inv r-μ
 r-same-length t c =
@@ -710,19 +719,23 @@ r-same-length t c =
 
 r-returns : (t : ℕ) → R.Need-returns (r-calls t) (r-at t) rule.Post r-Inv r-μ
 r-returns t c =
-    let c-pre = c .before .before .before .before .before .before .before .pre in
+    let c-pre = c .before .before .before .before .before .before .before .before .before .pre in
+    let c-get-cursor-index = c .before .before .before .get-cursor-index in
+    let c-set-cursor-index = c .before .before .set-cursor-index in
     let c-loop = c .before .loop in
     let c-if1 = c .if1 in
-    along-spent (c-pre .1) _ (c-loop .inv) (c-if1 .taken)
+    begun-left (c-pre .1) (c-get-cursor-index .ensures) (c-set-cursor-index .ensures) _ (along-spent (begun-ready (c-pre .1) (c-get-cursor-index .ensures) (c-set-cursor-index .ensures)) _ (c-loop .inv) (c-if1 .taken))
 
 r-sub-left : (t : ℕ) → R.Need-sub-left (r-calls t) (r-at t) rule.Post r-Inv r-μ
 r-sub-left t c = search needs
 
 r-finish-requires : (t : ℕ) → R.Need-finish-requires (r-calls t) (r-at t) rule.Post r-Inv r-μ
 r-finish-requires t c κs =
-    let c-pre = c .before .before .before .before .before .before .before .before .before .pre in
+    let c-pre = c .before .before .before .before .before .before .before .before .before .before .before .pre in
+    let c-get-cursor-index = c .before .before .before .before .before .get-cursor-index in
+    let c-set-cursor-index = c .before .before .before .before .set-cursor-index in
     let c-loop = c .before .before .before .loop in
-    (along-stored (c-pre .1) _ (c-loop .inv), (c-pre .1 .sets, (c-pre .1 .rules, (c-pre .1 .depth, (c-pre .1 .last, (omega (arith, c-loop .inv .inside, c-pre .1 .limit, c-pre .1 .short), (omega (arith, c-loop .inv .inside, c-loop .inv .under), λ z. c-loop .inv .under ∙ c-pre .1 .top z)))))))
+    (along-stored (begun-ready (c-pre .1) (c-get-cursor-index .ensures) (c-set-cursor-index .ensures)) _ (c-loop .inv), (c-pre .1 .sets, (c-pre .1 .rules, (c-pre .1 .depth, (c-pre .1 .last, (omega (arith, c-loop .inv .inside, (begun-ready (c-pre .1) (c-get-cursor-index .ensures) (c-set-cursor-index .ensures)) .limit, c-pre .1 .short), (omega (arith, c-loop .inv .inside, c-loop .inv .under), λ z. c-loop .inv .under ∙ (begun-ready (c-pre .1) (c-get-cursor-index .ensures) (c-set-cursor-index .ensures)) .top z)))))))
 
 r-same-length-2 : (t : ℕ) → R.Need-same-length-2 (r-calls t) (r-at t) rule.Post r-Inv r-μ
 r-same-length-2 t c =
@@ -732,12 +745,14 @@ r-same-length-2 t c =
 
 r-returns-2 : (t : ℕ) → R.Need-returns-2 (r-calls t) (r-at t) rule.Post r-Inv r-μ
 r-returns-2 t c =
-    let c-pre = c .before .before .before .before .before .before .before .before .before .before .before .before .pre in
+    let c-pre = c .before .before .before .before .before .before .before .before .before .before .before .before .before .before .pre in
+    let c-get-cursor-index = c .before .before .before .before .before .before .before .before .get-cursor-index in
+    let c-set-cursor-index = c .before .before .before .before .before .before .before .set-cursor-index in
     let c-loop = c .before .before .before .before .before .before .loop in
     let c-if1 = c .before .before .before .before .before .if1 in
     let c-if2 = c .before .before .before .before .if2 in
     let c-finish = c .before .before .finish in
-    along-end (c-pre .1) _ (c-loop .inv) (c-if1 .left) (c-if2 .taken) (c-finish .ensures)
+    begun-left (c-pre .1) (c-get-cursor-index .ensures) (c-set-cursor-index .ensures) _ (along-end (begun-ready (c-pre .1) (c-get-cursor-index .ensures) (c-set-cursor-index .ensures)) _ (c-loop .inv) (c-if1 .left) (c-if2 .taken) (c-finish .ensures))
 
 r-part-at-requires : (t : ℕ) → R.Need-part-at-requires (r-calls t) (r-at t) rule.Post r-Inv r-μ
 r-part-at-requires t c κs = search needs
@@ -764,7 +779,9 @@ r-loop-less t c =
 
 r-loop-again : (t : ℕ) → R.Need-loop-again (r-calls t) (r-at t) rule.Post r-Inv r-μ
 r-loop-again t c =
-    let c-pre = c .before .before .before .before .before .before .before .before .before .before .before .before .before .before .before .before .pre in
+    let c-pre = c .before .before .before .before .before .before .before .before .before .before .before .before .before .before .before .before .before .before .pre in
+    let c-get-cursor-index = c .before .before .before .before .before .before .before .before .before .before .before .before .get-cursor-index in
+    let c-set-cursor-index = c .before .before .before .before .before .before .before .before .before .before .before .set-cursor-index in
     let c-loop = c .before .before .before .before .before .before .before .before .before .before .loop in
     let c-if1 = c .before .before .before .before .before .before .before .before .before .if1 in
     let c-if2 = c .before .before .before .before .before .before .before .before .if2 in
@@ -772,7 +789,7 @@ r-loop-again t c =
     let c-part = c .before .before .before .before .before .part in
     let c-maybe-expect-char = c .before .before .before .maybe-expect-char in
     let c-step = c .before .step in
-    along-exact (c-pre .1) _ (c-loop .inv) (c-if1 .left) (c-if2 .left) _ (c-part-at .ensures) (c-part .given .1) _ (c-maybe-expect-char .ensures) (c-step .given .1)
+    along-exact (begun-ready (c-pre .1) (c-get-cursor-index .ensures) (c-set-cursor-index .ensures)) _ (c-loop .inv) (c-if1 .left) (c-if2 .left) _ (c-part-at .ensures) (c-part .given .1) _ (c-maybe-expect-char .ensures) (c-step .given .1)
 
 r-enum-told : (t : ℕ) → R.Need-enum-told (r-calls t) (r-at t) rule.Post r-Inv r-μ
 r-enum-told t c = search needs
@@ -784,7 +801,9 @@ r-same-length-3 t c =
 
 r-returns-3 : (t : ℕ) → R.Need-returns-3 (r-calls t) (r-at t) rule.Post r-Inv r-μ
 r-returns-3 t c =
-    let c-pre = c .before .before .before .before .before .before .before .before .before .before .before .before .before .before .before .pre in
+    let c-pre = c .before .before .before .before .before .before .before .before .before .before .before .before .before .before .before .before .before .pre in
+    let c-get-cursor-index = c .before .before .before .before .before .before .before .before .before .before .before .get-cursor-index in
+    let c-set-cursor-index = c .before .before .before .before .before .before .before .before .before .before .set-cursor-index in
     let c-loop = c .before .before .before .before .before .before .before .before .before .loop in
     let c-if1 = c .before .before .before .before .before .before .before .before .if1 in
     let c-if2 = c .before .before .before .before .before .before .before .if2 in
@@ -792,7 +811,7 @@ r-returns-3 t c =
     let c-part = c .before .before .before .before .part in
     let c-maybe-expect-char = c .before .before .maybe-expect-char in
     let c-enum-told = c .enum-told in
-    along-no-exact (c-pre .1) _ (c-loop .inv) (c-if1 .left) (c-if2 .left) _ (c-part-at .ensures) (c-part .given .1) _ (c-maybe-expect-char .ensures) (c-enum-told .given .1)
+    begun-left (c-pre .1) (c-get-cursor-index .ensures) (c-set-cursor-index .ensures) _ (along-no-exact (begun-ready (c-pre .1) (c-get-cursor-index .ensures) (c-set-cursor-index .ensures)) _ (c-loop .inv) (c-if1 .left) (c-if2 .left) _ (c-part-at .ensures) (c-part .given .1) _ (c-maybe-expect-char .ensures) (c-enum-told .given .1))
 
 r-enum-told-2 : (t : ℕ) → R.Need-enum-told-2 (r-calls t) (r-at t) rule.Post r-Inv r-μ
 r-enum-told-2 t c = search needs
@@ -810,7 +829,9 @@ r-loop-less-2 t c =
 
 r-loop-again-2 : (t : ℕ) → R.Need-loop-again-2 (r-calls t) (r-at t) rule.Post r-Inv r-μ
 r-loop-again-2 t c =
-    let c-pre = c .before .before .before .before .before .before .before .before .before .before .before .before .before .before .before .pre in
+    let c-pre = c .before .before .before .before .before .before .before .before .before .before .before .before .before .before .before .before .before .pre in
+    let c-get-cursor-index = c .before .before .before .before .before .before .before .before .before .before .before .get-cursor-index in
+    let c-set-cursor-index = c .before .before .before .before .before .before .before .before .before .before .set-cursor-index in
     let c-loop = c .before .before .before .before .before .before .before .before .before .loop in
     let c-if1 = c .before .before .before .before .before .before .before .before .if1 in
     let c-if2 = c .before .before .before .before .before .before .before .if2 in
@@ -818,7 +839,7 @@ r-loop-again-2 t c =
     let c-enum-told2 = c .before .before .before .before .enum-told2 in
     let c-maybe-expect-whitespace = c .before .before .before .maybe-expect-whitespace in
     let c-step2 = c .before .step2 in
-    along-whitespace (c-pre .1) _ (c-loop .inv) (c-if1 .left) (c-if2 .left) _ (c-part-at .ensures) (c-enum-told2 .given .1) _ (c-maybe-expect-whitespace .ensures) (c-step2 .given .1)
+    along-whitespace (begun-ready (c-pre .1) (c-get-cursor-index .ensures) (c-set-cursor-index .ensures)) _ (c-loop .inv) (c-if1 .left) (c-if2 .left) _ (c-part-at .ensures) (c-enum-told2 .given .1) _ (c-maybe-expect-whitespace .ensures) (c-step2 .given .1)
 
 r-enum-told-3 : (t : ℕ) → R.Need-enum-told-3 (r-calls t) (r-at t) rule.Post r-Inv r-μ
 r-enum-told-3 t c = search needs
@@ -830,7 +851,9 @@ r-same-length-4 t c =
 
 r-returns-4 : (t : ℕ) → R.Need-returns-4 (r-calls t) (r-at t) rule.Post r-Inv r-μ
 r-returns-4 t c =
-    let c-pre = c .before .before .before .before .before .before .before .before .before .before .before .before .before .before .pre in
+    let c-pre = c .before .before .before .before .before .before .before .before .before .before .before .before .before .before .before .before .pre in
+    let c-get-cursor-index = c .before .before .before .before .before .before .before .before .before .before .get-cursor-index in
+    let c-set-cursor-index = c .before .before .before .before .before .before .before .before .before .set-cursor-index in
     let c-loop = c .before .before .before .before .before .before .before .before .loop in
     let c-if1 = c .before .before .before .before .before .before .before .if1 in
     let c-if2 = c .before .before .before .before .before .before .if2 in
@@ -838,7 +861,7 @@ r-returns-4 t c =
     let c-enum-told2 = c .before .before .before .enum-told2 in
     let c-maybe-expect-whitespace = c .before .before .maybe-expect-whitespace in
     let c-enum-told3 = c .enum-told3 in
-    along-no-whitespace (c-pre .1) _ (c-loop .inv) (c-if1 .left) (c-if2 .left) _ (c-part-at .ensures) (c-enum-told2 .given .1) _ (c-maybe-expect-whitespace .ensures) (c-enum-told3 .given .1)
+    begun-left (c-pre .1) (c-get-cursor-index .ensures) (c-set-cursor-index .ensures) _ (along-no-whitespace (begun-ready (c-pre .1) (c-get-cursor-index .ensures) (c-set-cursor-index .ensures)) _ (c-loop .inv) (c-if1 .left) (c-if2 .left) _ (c-part-at .ensures) (c-enum-told2 .given .1) _ (c-maybe-expect-whitespace .ensures) (c-enum-told3 .given .1))
 
 r-enum-told-4 : (t : ℕ) → R.Need-enum-told-4 (r-calls t) (r-at t) rule.Post r-Inv r-μ
 r-enum-told-4 t c = search needs
@@ -850,11 +873,13 @@ r-match-with-expr-requires : (t : ℕ) → R.Need-match-with-expr-requires (r-ca
 r-match-with-expr-requires t c κs =
     let c-loop = c .before .before .before .before .before .before .before .loop in
     let c-if1 = c .before .before .before .before .before .before .if1 in
-    let c-pre = c .before .before .before .before .before .before .before .before .before .before .before .before .before .pre in
+    let c-pre = c .before .before .before .before .before .before .before .before .before .before .before .before .before .before .before .pre in
+    let c-get-cursor-index = c .before .before .before .before .before .before .before .before .before .get-cursor-index in
+    let c-set-cursor-index = c .before .before .before .before .before .before .before .before .set-cursor-index in
     let c-if2 = c .before .before .before .before .before .if2 in
     let c-part-at = c .before .before .before .before .part-at in
     let c-past = c .before .past in
-    (omega (arith, c-loop .inv .falls, c-if1 .left, c-pre .0), step-ready (c-pre .1) _ (c-loop .inv) (c-if1 .left) (c-if2 .left) _ (c-part-at .ensures) (c-past .ensures))
+    (omega (arith, c-loop .inv .falls, c-if1 .left, c-pre .0), step-ready (begun-ready (c-pre .1) (c-get-cursor-index .ensures) (c-set-cursor-index .ensures)) _ (c-loop .inv) (c-if1 .left) (c-if2 .left) _ (c-part-at .ensures) (c-past .ensures))
 
 r-same-length-5 : (t : ℕ) → R.Need-same-length-5 (r-calls t) (r-at t) rule.Post r-Inv r-μ
 r-same-length-5 t c =
@@ -864,7 +889,9 @@ r-same-length-5 t c =
 
 r-returns-5 : (t : ℕ) → R.Need-returns-5 (r-calls t) (r-at t) rule.Post r-Inv r-μ
 r-returns-5 t c =
-    let c-pre = c .before .before .before .before .before .before .before .before .before .before .before .before .before .before .before .before .pre in
+    let c-pre = c .before .before .before .before .before .before .before .before .before .before .before .before .before .before .before .before .before .before .pre in
+    let c-get-cursor-index = c .before .before .before .before .before .before .before .before .before .before .before .before .get-cursor-index in
+    let c-set-cursor-index = c .before .before .before .before .before .before .before .before .before .before .before .set-cursor-index in
     let c-loop = c .before .before .before .before .before .before .before .before .before .before .loop in
     let c-if1 = c .before .before .before .before .before .before .before .before .before .if1 in
     let c-if2 = c .before .before .before .before .before .before .before .before .if2 in
@@ -872,7 +899,7 @@ r-returns-5 t c =
     let c-enum-told4 = c .before .before .before .before .before .enum-told4 in
     let c-past = c .before .before .before .before .past in
     let c-match-with-expr = c .before .before .match-with-expr in
-    along-expression (c-pre .1) _ (c-loop .inv) (c-if1 .left) (c-if2 .left) _ (c-part-at .ensures) (c-enum-told4 .given .1) (c-past .ensures) (c-match-with-expr .ensures)
+    begun-left (c-pre .1) (c-get-cursor-index .ensures) (c-set-cursor-index .ensures) _ (along-expression (begun-ready (c-pre .1) (c-get-cursor-index .ensures) (c-set-cursor-index .ensures)) _ (c-loop .inv) (c-if1 .left) (c-if2 .left) _ (c-part-at .ensures) (c-enum-told4 .given .1) (c-past .ensures) (c-match-with-expr .ensures))
 
 r-enum-known-part-2 : (t : ℕ) → R.Need-enum-known-part-2 (r-calls t) (r-at t) rule.Post r-Inv r-μ
 r-enum-known-part-2 t c = search needs
@@ -884,14 +911,16 @@ r-match-with-nested-ruledef-requires : (t : ℕ) → R.Need-match-with-nested-ru
 r-match-with-nested-ruledef-requires t c κs =
     let c-loop = c .before .before .before .before .before .before .before .before .loop in
     let c-if1 = c .before .before .before .before .before .before .before .if1 in
-    let c-pre = c .before .before .before .before .before .before .before .before .before .before .before .before .before .before .pre in
+    let c-pre = c .before .before .before .before .before .before .before .before .before .before .before .before .before .before .before .before .pre in
+    let c-get-cursor-index = c .before .before .before .before .before .before .before .before .before .before .get-cursor-index in
+    let c-set-cursor-index = c .before .before .before .before .before .before .before .before .before .set-cursor-index in
     let c-if2 = c .before .before .before .before .before .before .if2 in
     let c-part-at = c .before .before .before .before .before .part-at in
     let c-past2 = c .before .past2 in
-    let c-args = c .before .before .before .before .before .before .before .before .before .before .before .before .before .before .args in
+    let c-args = c .before .before .before .before .before .before .before .before .before .before .before .before .before .before .before .before .args in
     let c-part2 = c .before .before .before .part2 in (
       omega (arith, c-loop .inv .falls, c-if1 .left, c-pre .0),
-      (step-ready (c-pre .1) _ (c-loop .inv) (c-if1 .left) (c-if2 .left) _ (c-part-at .ensures) (c-past2 .ensures), ruleset-few (c-pre .1) (c-args .visits) (c-loop .inv) (c-if1 .left) (c-if2 .left) _ (c-part-at .ensures) (c-part2 .given .1)),
+      (step-ready (begun-ready (c-pre .1) (c-get-cursor-index .ensures) (c-set-cursor-index .ensures)) _ (c-loop .inv) (c-if1 .left) (c-if2 .left) _ (c-part-at .ensures) (c-past2 .ensures), ruleset-few (begun-ready (c-pre .1) (c-get-cursor-index .ensures) (c-set-cursor-index .ensures)) (c-args .visits) (c-loop .inv) (c-if1 .left) (c-if2 .left) _ (c-part-at .ensures) (c-part2 .given .1)),
     )
 
 r-same-length-6 : (t : ℕ) → R.Need-same-length-6 (r-calls t) (r-at t) rule.Post r-Inv r-μ
@@ -902,7 +931,9 @@ r-same-length-6 t c =
 
 r-returns-6 : (t : ℕ) → R.Need-returns-6 (r-calls t) (r-at t) rule.Post r-Inv r-μ
 r-returns-6 t c =
-    let c-pre = c .before .before .before .before .before .before .before .before .before .before .before .before .before .before .before .before .before .pre in
+    let c-pre = c .before .before .before .before .before .before .before .before .before .before .before .before .before .before .before .before .before .before .before .pre in
+    let c-get-cursor-index = c .before .before .before .before .before .before .before .before .before .before .before .before .before .get-cursor-index in
+    let c-set-cursor-index = c .before .before .before .before .before .before .before .before .before .before .before .before .set-cursor-index in
     let c-loop = c .before .before .before .before .before .before .before .before .before .before .before .loop in
     let c-if1 = c .before .before .before .before .before .before .before .before .before .before .if1 in
     let c-if2 = c .before .before .before .before .before .before .before .before .before .if2 in
@@ -910,7 +941,7 @@ r-returns-6 t c =
     let c-part2 = c .before .before .before .before .before .before .part2 in
     let c-past2 = c .before .before .before .before .past2 in
     let c-match-with-nested-ruledef = c .before .before .match-with-nested-ruledef in
-    along-nested (c-pre .1) _ (c-loop .inv) (c-if1 .left) (c-if2 .left) _ (c-part-at .ensures) (c-part2 .given .1) (c-past2 .ensures) (c-match-with-nested-ruledef .ensures)
+    begun-left (c-pre .1) (c-get-cursor-index .ensures) (c-set-cursor-index .ensures) _ (along-nested (begun-ready (c-pre .1) (c-get-cursor-index .ensures) (c-set-cursor-index .ensures)) _ (c-loop .inv) (c-if1 .left) (c-if2 .left) _ (c-part-at .ensures) (c-part2 .given .1) (c-past2 .ensures) (c-match-with-nested-ruledef .ensures))
 
 pub +match-with-expr+match-with-nested-ruledef+match-with-rule-spec : {M : Type 1} → statement M
 +match-with-expr+match-with-nested-ruledef+match-with-rule-spec =
@@ -920,4 +951,4 @@ pub +match-with-expr+match-with-nested-ruledef+match-with-rule-spec : {M : Type 
     (λ t. N.spec (n-calls t) (n-at t) nested.Post n-Inv2 n-μ2 n-Inv n-μ n-Inv3 n-μ3
     (n-returns t) (n-next-useful-index-requires t) (n-find-limits-requires t) (n-mul-begin t) (n-shared-slice-read-begin t) (n-cast-begin t) (n-add-count t) (n-mul-count t) (n-shared-slice-read-count t) (n-cast-count t) (n-sub-count t) (n-loop-holds t) (n-mul-set-cursor-limit t) (n-element-copy-out-set-cursor-limit t) (n-set-cursor-limit-requires t) (n-add-pass t) (n-loop2-holds t) (n-loop-less t) (n-loop-again t) (n-add-parts-of t) (n-cast-parts-of t) (n-parts-of-requires t) (n-add-t60 t) (n-add-rule t) (n-match-with-rule-requires t) (n-enum-known-got t) (n-loop2-less t) (n-loop2-again t) (n-enum-known-got-2 t) (n-same-length t) (n-returns-2 t) (n-loop3-holds t) (n-add-m t) (n-add-inner-match t) (n-inner-match-requires t) (n-enum-told t) (n-loop3-less t) (n-loop3-again t) (n-enum-known-found t) (n-least-requires t) (n-keep-requires t) (n-enum-told-2 t) (n-same-length-2 t) (n-returns-3 t) (n-enum-known-room t) (n-after-requires t) (n-set-cursor-index-requires t) (n-match-with-rule-requires-2 t) (n-enum-known-got-3 t) (n-loop3-less-2 t) (n-loop3-again-2 t) (n-enum-known-got-4 t) (n-same-length-3 t) (n-returns-4 t) (n-same-length-4 t) (n-returns-5 t))
     (λ t. R.spec (r-calls t) (r-at t) rule.Post r-Inv r-μ
-    (r-loop-holds t) (r-same-length t) (r-returns t) (r-sub-left t) (r-finish-requires t) (r-same-length-2 t) (r-returns-2 t) (r-part-at-requires t) (r-add-at t) (r-enum-known-part t) (r-maybe-expect-char-requires t) (r-enum-known-step t) (r-loop-less t) (r-loop-again t) (r-enum-told t) (r-same-length-3 t) (r-returns-3 t) (r-enum-told-2 t) (r-maybe-expect-whitespace-requires t) (r-enum-known-step-2 t) (r-loop-less-2 t) (r-loop-again-2 t) (r-enum-told-3 t) (r-same-length-4 t) (r-returns-4 t) (r-enum-told-4 t) (r-past-requires t) (r-match-with-expr-requires t) (r-same-length-5 t) (r-returns-5 t) (r-enum-known-part-2 t) (r-past-requires-2 t) (r-match-with-nested-ruledef-requires t) (r-same-length-6 t) (r-returns-6 t))
+    (r-get-cursor-index-requires t) (r-set-cursor-index-requires t) (r-loop-holds t) (r-same-length t) (r-returns t) (r-sub-left t) (r-finish-requires t) (r-same-length-2 t) (r-returns-2 t) (r-part-at-requires t) (r-add-at t) (r-enum-known-part t) (r-maybe-expect-char-requires t) (r-enum-known-step t) (r-loop-less t) (r-loop-again t) (r-enum-told t) (r-same-length-3 t) (r-returns-3 t) (r-enum-told-2 t) (r-maybe-expect-whitespace-requires t) (r-enum-known-step-2 t) (r-loop-less-2 t) (r-loop-again-2 t) (r-enum-told-3 t) (r-same-length-4 t) (r-returns-4 t) (r-enum-told-4 t) (r-past-requires t) (r-match-with-expr-requires t) (r-same-length-5 t) (r-returns-5 t) (r-enum-known-part-2 t) (r-past-requires-2 t) (r-match-with-nested-ruledef-requires t) (r-same-length-6 t) (r-returns-6 t))

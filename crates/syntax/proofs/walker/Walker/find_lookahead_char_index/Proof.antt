@@ -6,7 +6,7 @@ use denote.Ref.{now}
 use Rattle.syntax.specs.Walker.{held}
 use Rattle.syntax.specs.Cut.{fresh, cutFrom, cut}
 use Rattle.syntax.specs.declared.walker.Walker.{Walker}
-use Rattle.syntax.proofs.Useful.{Within, held-is-within}
+use Rattle.syntax.proofs.Useful.{InLine, held-is-within}
 use borrow.Author.Needs.{needs}
 use Rattle.syntax.proofs.walker.Walker.find_lookahead_char_index.Statement.{statement}
 use Rattle.syntax.proofs.walker.Walker.find_lookahead_char_index.Tie as tie
