@@ -12,7 +12,7 @@ use Rattle.plain.specs.Choice.{select}
 use Rattle.plain.specs.Below.{everyBelow, sumBelow}
 use Rattle.plain.specs.Lists.{count}
 use Rattle.plain.proofs.Lists.{count-most}
-use Rattle.plain.proofs.Tests.{and-left, and-right, and-both}
+use Rattle.plain.proofs.Tests.{and-both, and-false-right}
 use Rattle.plain.proofs.Below.{every-fewer, every-fails}
 use Rattle.defs.specs.Table.{wordAt, rulesetsIn, recordsIn, partsIn, partsFrom, flagAt, rulesetAt, firstAt, countAt, partWordAt, partOf, ruleFrom, ruleWords, ruleParts, ruleSpan, partsBetween, isParameter}
 use Rattle.defs.specs.Table.{inRange, sizesFit, lengthFits, rulesetBefore, rulesetFits, rangeFits, rangesFit, countsFit, parametersIn, isPart}
@@ -48,11 +48,9 @@ module _ (t : List ℕ) (i s b w : ℕ) (sets : s ≡ rulesetsIn t) (before : b 
   unfolding rulesetFits
   ruleset-past h = ap (λ (x : Bool). x && leb (rulesetBefore t i) (rulesetAt t i)) (le-ltb (rulesetAt t i) (rulesetsIn t) (omega arith))
 
-  pub ruleset-falls : w < s → w < b → rulesetFits t i ≡ false
+  pub ruleset-falls : w < b → rulesetFits t i ≡ false
   unfolding rulesetFits
-  ruleset-falls h k =
-      ap (λ (x : Bool). x && leb (rulesetBefore t i) (rulesetAt t i)) (lt-ltb (rulesetAt t i) (rulesetsIn t) (omega arith))
-      ∙ lt-leb (rulesetBefore t i) (rulesetAt t i) (omega arith)
+  ruleset-falls k = and-false-right (ltb (rulesetAt t i) (rulesetsIn t)) _ (lt-leb (rulesetBefore t i) (rulesetAt t i) (omega arith))
 
 pub before-next : (t : List ℕ) (i w : ℕ) → w ≡ rulesetAt t i → w ≡ rulesetBefore t (i + 1)
 unfolding rulesetBefore
@@ -73,11 +71,9 @@ module _ (t : List ℕ) (i p f n : ℕ) (parts : p ≡ partsIn t) (first : f ≡
   unfolding rangeFits
   range-past h = ap (λ (x : Bool). x && leb (countAt t i) 64) (lt-leb (firstAt t i + countAt t i) (partsIn t) (omega arith))
 
-  pub range-long : f + n ≤ p → 64 < n → rangeFits t i ≡ false
+  pub range-long : 64 < n → rangeFits t i ≡ false
   unfolding rangeFits
-  range-long h k =
-      ap (λ (x : Bool). x && leb (countAt t i) 64) (le-leb (firstAt t i + countAt t i) (partsIn t) (omega arith))
-      ∙ lt-leb (countAt t i) 64 (omega arith)
+  range-long k = and-false-right (leb (firstAt t i + countAt t i) (partsIn t)) _ (lt-leb (countAt t i) 64 (omega arith))
 
 pub ranges-fail : (t : List ℕ) (i : ℕ) → i < recordsIn t → rangeFits t i ≡ false → false ≡ (rangesFit t && countsFit t)
 unfolding rangesFit

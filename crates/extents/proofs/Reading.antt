@@ -3,9 +3,9 @@
 use mathlib.Core.Path.{_≡_}
 use mathlib.Core.Bool.{true, false, _&&_}
 use mathlib.Core.List.{List}
-use mathlib.Core.Option.{none}
+use mathlib.Core.Option.{none, some}
 use Prim.Native.Nat.{ℕ, _≤_}
-use borrow.Author.Tests.{leb-true}
+use borrow.Author.Tests.{leb-true, eq-eqb, ne-eqb}
 use lib.Dec.{leb}
 use Rattle.plain.proofs.Tests.{and-left, and-right}
 use Rattle.extents.specs.Sheet.{sized, entryAt}
@@ -26,3 +26,10 @@ module _ (sheet : List ℕ) (n c l : ℕ) where
   pub unread : (half : Half) → readable sheet n c l ≡ false → endIn sheet n half c l ≡ none
   unfolding endIn
   unread half nowhere = rw nowhere
+
+-- an entry's end, by what its byte is
+pub end-none : (e : ℕ) → e ≡ 255 → none ≡ entryEnd e
+end-none e h = rw (eq-eqb e 255 h)
+
+pub end-some : (e : ℕ) → (e ≡ 255 → ⊥) → some e ≡ entryEnd e
+end-some e n = rw (ne-eqb e 255 n)

@@ -1,6 +1,5 @@
 // The ground floor behind C functions, for `oracle/`: a walker's moves, its cut, and the rules that lookup tries, each to be
-// compared with the Rust's own. Each function is one call of `syntax` or `defs`; a walker comes as its cursor and limit.
-
+// compared with the Rust's own. Each function is one call of `syntax` or `ruledef_map`; a walker comes as its cursor and limit.
 use syntax::walker::Lookahead;
 use syntax::walker::Step;
 use syntax::walker::Walker;

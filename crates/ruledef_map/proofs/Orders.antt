@@ -19,7 +19,7 @@ use Rattle.plain.specs.Buffers.{putAfter}
 use Rattle.plain.specs.Lists.{range, keepIf}
 use Rattle.plain.proofs.Below.{count-none, count-no, count-more, count-most, count-grows, count-next}
 use Rattle.plain.proofs.Lists.{kept-length, kept-more, kept-same, kept-none, kept-both, flat-more, flat-same, flat-fewer}
-use Rattle.plain.proofs.Tests.{tested, not-both, and-left, and-right, and-both}
+use Rattle.plain.proofs.Tests.{tested, not-both, and-left, and-right, and-both, and-false-right}
 use Rattle.defs.specs.Table.{recordsIn, ruleParts}
 use Rattle.defs.specs.Ruledef.{isTopRule}
 use Rattle.ruledef_map.specs.RuledefMap.{rulePrefix, sameBytes, prefixLength, topRules, withPrefix, foundIn, foundRules, markOf, withMark, putRules}
@@ -98,11 +98,11 @@ module _ (t rules buffer : List ℕ) where
   unfolding putRules
   put-many h = sym (ap (λ (b : Bool). select (b && leb (recordsIn t) (length buffer)) (rules ++ drop (length rules) buffer, length rules) (buffer, 0)) (lt-leb (recordsIn t) 512 h))
 
-  pub put-short : recordsIn t ≤ 512 → length buffer < recordsIn t → (buffer, 0) ≡ putRules t rules buffer
+  pub put-short : length buffer < recordsIn t → (buffer, 0) ≡ putRules t rules buffer
   unfolding putRules
-  put-short h k =
+  put-short k =
       sym
-      (ap₂ (λ (a b : Bool). select (a && b) (rules ++ drop (length rules) buffer, length rules) (buffer, 0)) (le-leb (recordsIn t) 512 h) (lt-leb (recordsIn t) (length buffer) k))
+      (ap (λ (b : Bool). select b (rules ++ drop (length rules) buffer, length rules) (buffer, 0)) (and-false-right (leb (recordsIn t) 512) _ (lt-leb (recordsIn t) (length buffer) k)))
 
   pub put-all : recordsIn t ≤ 512 → recordsIn t ≤ length buffer → (rules ++ drop (length rules) buffer, length rules) ≡ putRules t rules buffer
   unfolding putRules

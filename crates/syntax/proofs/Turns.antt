@@ -1,7 +1,8 @@
 -- One byte of the search for the cut, case by case as the code tells them apart.
-use mathlib.Core.Path.{_≡_}
-use mathlib.Core.Bool.{Bool, true, false, _||_}
+use mathlib.Core.Path.{_≡_, refl}
+use mathlib.Core.Bool.{Bool, true, false, _&&_, _||_}
 use Prim.Native.Nat.{ℕ, _+_, _-_}
+use lib.Dec.{eqb}
 use borrow.Author.Tests.{eq-eqb, ne-eqb}
 use Rattle.token.specs.Token.{isSolid, sameLetter}
 use Rattle.syntax.specs.Cut.{isWanted, isStray, takenIn, turnOf}
@@ -21,19 +22,28 @@ pub turn-on : (x b : ℕ) (s : Search) → isWanted x b s ≡ false → isStray 
 unfolding turnOf
 turn-on x b s w t = rw (w, t)
 
--- the wanted byte, as the code tests it
+-- the wanted byte, as the code tests it: any one test that fails decides
+third-fails : (p q r t : Bool) → r ≡ false → false ≡ (p && q && r && t)
+third-fails true true r t e = rw e
+third-fails true false r t e = refl
+third-fails false q r t e = refl
+
+second-fails : (p q r t : Bool) → q ≡ false → false ≡ (p && q && r && t)
+second-fails true q r t e = rw e
+second-fails false q r t e = refl
+
 module _ (x b : ℕ) (s : Search) where
   pub wanted-unseen : s .seen ≡ false → false ≡ isWanted x b s
   unfolding isWanted
   wanted-unseen e = rw (e, isWanted)
 
-  pub wanted-in-parens : s .seen ≡ true → (s .parens ≡ 0 → ⊥) → false ≡ isWanted x b s
+  pub wanted-in-parens : (s .parens ≡ 0 → ⊥) → false ≡ isWanted x b s
   unfolding isWanted
-  wanted-in-parens e n = rw (isWanted, e, ne-eqb (s .parens) 0 n)
+  wanted-in-parens n = second-fails (s .seen) (eqb (s .parens) 0) (eqb (s .braces) 0) (sameLetter b x) (ne-eqb (s .parens) 0 n)
 
-  pub wanted-in-braces : s .seen ≡ true → s .parens ≡ 0 → (s .braces ≡ 0 → ⊥) → false ≡ isWanted x b s
+  pub wanted-in-braces : (s .braces ≡ 0 → ⊥) → false ≡ isWanted x b s
   unfolding isWanted
-  wanted-in-braces e p n = rw (isWanted, e, eq-eqb (s .parens) 0 p, ne-eqb (s .braces) 0 n)
+  wanted-in-braces n = third-fails (s .seen) (eqb (s .parens) 0) (eqb (s .braces) 0) (sameLetter b x) (ne-eqb (s .braces) 0 n)
 
   pub wanted-outside : s .seen ≡ true → s .parens ≡ 0 → s .braces ≡ 0 → sameLetter b x ≡ isWanted x b s
   unfolding isWanted

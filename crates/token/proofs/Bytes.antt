@@ -48,19 +48,19 @@ kind-whitespace b = go (isWhitespace b) (eqb b 40) (eqb b 41) (eqb b 123) (eqb b
     go false false false false true = refl
     go false false false false false = refl
 
--- ---- where the table need not be read
+-- ---- where the table need not be read: past a bound of the code, which the last premise judges
 
-pub white-above : (b : ℕ) → 32 < b → false ≡ isWhitespace b
+pub white-above : (k b : ℕ) → k < b → 32 ≤ k → false ≡ isWhitespace b
 unfolding isWhitespace
-white-above b h = rw (isWhitespace, ne-eqb b 9 (λ e. omega arith), ne-eqb b 32 (λ e. omega arith))
+white-above k b h l = rw (isWhitespace, ne-eqb b 9 (λ e. omega arith), ne-eqb b 32 (λ e. omega arith))
 
-pub low-below : (b : ℕ) → b < 65 → b ≡ lowered b
+pub low-below : (k b : ℕ) → b < k → k ≤ 65 → b ≡ lowered b
 unfolding lowered
-low-below b h = rw (lowered, lt-leb 65 b h)
+low-below k b h l = rw (lowered, lt-leb 65 b (omega arith))
 
-pub low-above : (b : ℕ) → 90 < b → b ≡ lowered b
+pub low-above : (k b : ℕ) → k < b → 90 ≤ k → b ≡ lowered b
 unfolding lowered
-low-above b h = ap (λ (t : Bool). select t (b + 32) b) (sym (and-false-right (leb 65 b) (leb b 90) (lt-leb b 90 h)))
+low-above k b h l = ap (λ (t : Bool). select t (b + 32) b) (sym (and-false-right (leb 65 b) (leb b 90) (lt-leb b 90 (omega arith))))
 
 -- A byte's partner is itself or, if it is a capital, 32 above.
 abbrev Partner : ℕ → ℕ → Type 0

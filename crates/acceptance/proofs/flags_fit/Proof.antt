@@ -29,7 +29,7 @@ word-at-requires c κs = search needs
 
 returns : tie.Need-returns Inv-loop μ-loop
 unfolding flagsFit
-returns c = one-failed _ _ _ (omega arith) (flag-fails _ _ _ (c .before .word-at .ensures .0) (c .if1 .taken))
+returns c = one-failed _ _ _ (omega arith) (flag-fails _ _ _ (c .before .word-at .ensures .0) (omega (arith, c .if1 .taken)))
 
 add-set : tie.Need-add-set Inv-loop μ-loop
 add-set c = search needs
@@ -38,7 +38,7 @@ loop-less : tie.Need-loop-less Inv-loop μ-loop
 loop-less c = search needs
 
 loop-again : tie.Need-loop-again Inv-loop μ-loop
-loop-again c = every-step _ _ (c .before .before .before .loop .inv) (flag-fits _ _ _ (c .before .word-at .ensures .0) (c .if1 .left))
+loop-again c = every-step _ _ (c .before .before .before .loop .inv) (flag-fits _ _ _ (c .before .word-at .ensures .0) (omega (arith, c .if1 .left)))
 
 returns-2 : tie.Need-returns-2 Inv-loop μ-loop
 unfolding flagsFit

@@ -1,4 +1,5 @@
 -- Few parts, or the parameters counted.
+use native.Mathlib.Omega.{arith}
 use borrow.Author.Needs.{needs}
 use Rattle.acceptance.proofs.Check.{few-parts, parameters-few}
 use Rattle.acceptance.proofs.has_few_parameters.Statement.{statement}
@@ -8,7 +9,7 @@ field-at-requires : tie.Need-field-at-requires
 field-at-requires c κs = search needs
 
 returns : tie.Need-returns
-returns c = few-parts _ _ _ (c .before .field-at .ensures .0) (c .if1 .taken)
+returns c = few-parts _ _ _ (c .before .field-at .ensures .0) (omega (arith, c .if1 .taken))
 
 parameters-of-requires : tie.Need-parameters-of-requires
 parameters-of-requires c κs = search needs

@@ -36,7 +36,7 @@ returns : tie.Need-returns Inv-loop μ-loop
 returns c = ranges-fail _ _ (omega arith) (range-past _ _ _ _ _ (c .before .before .before .before .before .before .pre .1 .1) (c .before .field-at2 .ensures .0) (c .before .before .field-at .ensures .0) (c .if1 .taken))
 
 returns-2 : tie.Need-returns-2 Inv-loop μ-loop
-returns-2 c = ranges-fail _ _ (omega arith) (range-long _ _ _ _ _ (c .before .before .before .before .before .before .before .pre .1 .1) (c .before .before .field-at2 .ensures .0) (c .before .before .before .field-at .ensures .0) (c .before .if1 .left) (c .if2 .taken))
+returns-2 c = ranges-fail _ _ (omega arith) (range-long _ _ _ _ _ (c .before .before .before .before .before .before .before .pre .1 .1) (c .before .before .field-at2 .ensures .0) (c .before .before .before .field-at .ensures .0) (omega (arith, c .if2 .taken)))
 
 add-sum : tie.Need-add-sum Inv-loop μ-loop
 add-sum c = search needs
@@ -49,7 +49,7 @@ loop-less c = search needs
 
 loop-again : tie.Need-loop-again Inv-loop μ-loop
 loop-again c = (
-  every-step _ _ (c .before .before .before .before .before .loop .inv .0) (range-fits _ _ _ _ _ (c .before .before .before .before .before .before .before .pre .1 .1) (c .before .before .field-at2 .ensures .0) (c .before .before .before .field-at .ensures .0) (c .before .if1 .left) (c .if2 .left)),
+  every-step _ _ (c .before .before .before .before .before .loop .inv .0) (range-fits _ _ _ _ _ (c .before .before .before .before .before .before .before .pre .1 .1) (c .before .before .field-at2 .ensures .0) (c .before .before .before .field-at .ensures .0) (omega (arith, c .before .if1 .left)) (omega (arith, c .if2 .left))),
   (ap₂ _+_ (c .before .before .before .before .before .loop .inv .1 .0) (c .before .before .before .field-at .ensures .0) ∙ sym (sum-more _ _), (omega arith, omega arith)),
 )
 

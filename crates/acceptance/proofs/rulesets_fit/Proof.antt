@@ -28,11 +28,11 @@ field-at-requires c κs = search needs
 
 returns : tie.Need-returns Inv-loop μ-loop
 unfolding rulesetsFit
-returns c = one-failed _ _ _ (omega arith) (ruleset-past _ _ _ _ _ (c .before .before .before .before .before .pre .0) (c .before .before .before .loop .inv .1 .0) (c .before .field-at .ensures .0) (c .if1 .taken))
+returns c = one-failed _ _ _ (omega arith) (ruleset-past _ _ _ _ _ (c .before .before .before .before .before .pre .0) (c .before .before .before .loop .inv .1 .0) (c .before .field-at .ensures .0) (omega (arith, c .if1 .taken)))
 
 returns-2 : tie.Need-returns-2 Inv-loop μ-loop
 unfolding rulesetsFit
-returns-2 c = one-failed _ _ _ (omega arith) (ruleset-falls _ _ _ _ _ (c .before .before .before .before .before .before .pre .0) (c .before .before .before .before .loop .inv .1 .0) (c .before .before .field-at .ensures .0) (c .before .if1 .left) (c .if2 .taken))
+returns-2 c = one-failed _ _ _ (omega arith) (ruleset-falls _ _ _ _ _ (c .before .before .before .before .before .before .pre .0) (c .before .before .before .before .loop .inv .1 .0) (c .before .before .field-at .ensures .0) (omega (arith, c .if2 .taken)))
 
 add-rule : tie.Need-add-rule Inv-loop μ-loop
 add-rule c = search needs
@@ -42,7 +42,7 @@ loop-less c = search needs
 
 loop-again : tie.Need-loop-again Inv-loop μ-loop
 loop-again c = (
-  every-step _ _ (c .before .before .before .before .loop .inv .0) (ruleset-fits _ _ _ _ _ (c .before .before .before .before .before .before .pre .0) (c .before .before .before .before .loop .inv .1 .0) (c .before .before .field-at .ensures .0) (c .before .if1 .left) (c .if2 .left)),
+  every-step _ _ (c .before .before .before .before .loop .inv .0) (ruleset-fits _ _ _ _ _ (c .before .before .before .before .before .before .pre .0) (c .before .before .before .before .loop .inv .1 .0) (c .before .before .field-at .ensures .0) (omega (arith, c .before .if1 .left)) (omega (arith, c .if2 .left))),
   (before-next _ _ _ (c .before .before .field-at .ensures .0), omega arith),
 )
 

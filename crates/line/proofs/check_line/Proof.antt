@@ -17,7 +17,7 @@ abbrev μ-loop : tie.MeasureT-loop
 μ-loop line i₀ i = length line - i
 
 returns : tie.Need-returns Inv-loop μ-loop
-returns c = verdict-long _ (c .if1 .taken)
+returns c = verdict-long _ (omega (arith, c .if1 .taken))
 
 loop-holds : tie.Need-loop-holds Inv-loop μ-loop
 loop-holds c = (omega arith, refl)
@@ -55,17 +55,17 @@ sub-t14 c = search needs
 returns-3 : tie.Need-returns-3 Inv-loop μ-loop
 returns-3 c =
     let end : length (now (c .before .before .before .before .before .before .before .before .args .line)) ≡ c .before .before .before .before .before .loop .i = omega arith in
-    verdict-end _ (c .before .before .before .before .before .before .if1 .left) _ end (c .before .before .before .before .before .loop .inv .1) (c .before .before .before .if3 .taken) (sym (c .before .is-whitespace .ensures) ∙ c .if4 .taken)
+    verdict-end _ (c .before .before .before .before .before .before .if1 .left) _ end (c .before .before .before .before .before .loop .inv .1) (omega (arith, c .before .before .before .if3 .taken)) (sym (c .before .is-whitespace .ensures) ∙ c .if4 .taken)
 
 returns-4 : tie.Need-returns-4 Inv-loop μ-loop
 returns-4 c =
     let end : length (now (c .before .before .before .before .before .before .before .before .args .line)) ≡ c .before .before .before .before .before .loop .i = omega arith in
-    verdict-good _ (c .before .before .before .before .before .before .if1 .left) _ end (c .before .before .before .before .before .loop .inv .1) (c .before .before .before .if3 .taken) (sym (c .before .is-whitespace .ensures) ∙ c .if4 .left)
+    verdict-good _ (c .before .before .before .before .before .before .if1 .left) _ end (c .before .before .before .before .before .loop .inv .1) (omega (arith, c .before .before .before .if3 .taken)) (sym (c .before .is-whitespace .ensures) ∙ c .if4 .left)
 
 returns-5 : tie.Need-returns-5 Inv-loop μ-loop
 returns-5 c =
     let end : length (now (c .before .before .before .before .before .args .line)) ≡ c .before .before .loop .i = omega arith in
-    verdict-empty _ (c .before .before .before .if1 .left) _ end (c .before .before .loop .inv .1) (c .if3 .left)
+    verdict-empty _ (c .before .before .before .if1 .left) _ end (c .before .before .loop .inv .1) (omega (arith, c .if3 .left))
 
 pub check-line-spec : {M : Type 1} → statement M
 check-line-spec =

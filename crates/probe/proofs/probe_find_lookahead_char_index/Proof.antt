@@ -6,23 +6,18 @@ use Rattle.probe.proofs.probe_find_lookahead_char_index.Reads as reads
 use Rattle.probe.proofs.probe_find_lookahead_char_index.Lts as lts
 use Rattle.syntax.proofs.walker.Walker.find_lookahead_char_index.Reads as find-lookahead-char-index-reads
 
--- src/lib.rt:125:11
 find-lookahead-char-index-requires : tie.Need-find-lookahead-char-index-requires
 find-lookahead-char-index-requires c κs = search needs
 
--- src/lib.rt:126:23
 enum-known-place : tie.Need-enum-known-place
 enum-known-place c = search needs
 
--- src/lib.rt:127:31
 enum-told : tie.Need-enum-told
 enum-told c = search needs
 
--- src/lib.rt:115:1
 returns : tie.Need-returns
 returns c = cut-at (c .before .place .given .1) (c .before .before .before .find-lookahead-char-index .ensures)
 
--- src/lib.rt:115:1
 returns-2 : tie.Need-returns-2
 returns-2 c = cut-none (c .enum-told .given .1) (c .before .before .find-lookahead-char-index .ensures)
 

@@ -6,23 +6,18 @@ use Rattle.probe.proofs.probe_maybe_expect_char.Reads as reads
 use Rattle.probe.proofs.probe_maybe_expect_char.Lts as lts
 use Rattle.syntax.proofs.walker.Walker.maybe_expect_char.Reads as maybe-expect-char-reads
 
--- src/lib.rt:82:11
 maybe-expect-char-requires : tie.Need-maybe-expect-char-requires
 maybe-expect-char-requires c κs = search needs
 
--- src/lib.rt:83:20
 enum-known-moved : tie.Need-enum-known-moved
 enum-known-moved c = search needs
 
--- src/lib.rt:87:22
 enum-known-held : tie.Need-enum-known-held
 enum-known-held c = search needs
 
--- src/lib.rt:72:1
 returns : tie.Need-returns
 returns c = past-says (c .before .moved .given .1) (c .before .before .before .maybe-expect-char .ensures)
 
--- src/lib.rt:72:1
 returns-2 : tie.Need-returns-2
 returns-2 c = stayed-says (c .before .held .given .1) (c .before .before .before .maybe-expect-char .ensures)
 

@@ -6,23 +6,18 @@ use Rattle.probe.proofs.probe_maybe_expect_whitespace.Reads as reads
 use Rattle.probe.proofs.probe_maybe_expect_whitespace.Lts as lts
 use Rattle.syntax.proofs.walker.Walker.maybe_expect_whitespace.Reads as maybe-expect-whitespace-reads
 
--- src/lib.rt:103:11
 maybe-expect-whitespace-requires : tie.Need-maybe-expect-whitespace-requires
 maybe-expect-whitespace-requires c κs = search needs
 
--- src/lib.rt:104:20
 enum-known-held : tie.Need-enum-known-held
 enum-known-held c = search needs
 
--- src/lib.rt:108:22
 enum-known-held-2 : tie.Need-enum-known-held-2
 enum-known-held-2 c = search needs
 
--- src/lib.rt:94:1
 returns : tie.Need-returns
 returns c = past-says (c .before .held .given .1) (c .before .before .before .maybe-expect-whitespace .ensures)
 
--- src/lib.rt:94:1
 returns-2 : tie.Need-returns-2
 returns-2 c = stayed-says (c .before .held2 .given .1) (c .before .before .before .maybe-expect-whitespace .ensures)
 

@@ -7,19 +7,15 @@ use Rattle.probe.proofs.probe_query_prefixed.Lts as lts
 use Rattle.ruledef_map.proofs.parse_prefix.Reads as parse-prefix-reads
 use Rattle.ruledef_map.proofs.query_prefixed.Reads as query-prefixed-reads
 
--- src/lib.rt:136:9
 parse-prefix-requires : tie.Need-parse-prefix-requires
 parse-prefix-requires c κs = search needs
 
--- src/lib.rt:137:5
 query-prefixed-requires : tie.Need-query-prefixed-requires
 query-prefixed-requires c κs = search needs
 
--- src/lib.rt:132:1
 same-length : tie.Need-same-length
 same-length c = search needs
 
--- src/lib.rt:132:1
 returns : tie.Need-returns
 returns c = query-by _ _ (c .before .before .before .before .parse-prefix .ensures) (c .before .before .query-prefixed .ensures)
 

@@ -19,7 +19,7 @@ loop-holds : tie.Need-loop-holds Inv-loop μ-loop
 loop-holds c = gathered-none _
 
 returns : tie.Need-returns Inv-loop μ-loop
-returns c = prefix-full _ _ _ _ (c .before .before .loop .inv) (c .if1 .taken)
+returns c = prefix-full _ _ _ _ (c .before .before .loop .inv) (omega (arith, c .if1 .taken))
 
 shared-slice-read-b : tie.Need-shared-slice-read-b Inv-loop μ-loop
 shared-slice-read-b c = search needs
@@ -44,7 +44,7 @@ loop-less c = search needs
 
 loop-again : tie.Need-loop-again Inv-loop μ-loop
 loop-again c =
-    gathered-solid _ _ (c .before .before .before .before .before .loop-test .taken) _ _ _ refl (c .before .before .before .before .before .before .loop .inv) _ (ap not (sym (c .before .before .is-whitespace .ensures)) ∙ c .before .if2 .taken) (c .to-ascii-lowercase .ensures) (c .before .before .before .before .if1 .left)
+    gathered-solid _ _ (c .before .before .before .before .before .loop-test .taken) _ _ _ refl (c .before .before .before .before .before .before .loop .inv) _ (ap not (sym (c .before .before .is-whitespace .ensures)) ∙ c .before .if2 .taken) (c .to-ascii-lowercase .ensures) (omega (arith, c .before .before .before .before .if1 .left))
 
 loop-less-2 : tie.Need-loop-less-2 Inv-loop μ-loop
 loop-less-2 c = search needs

@@ -8,15 +8,12 @@ use Rattle.token.proofs.class.Tie as tie
 use Rattle.token.proofs.class.Reads as reads
 use Rattle.token.proofs.class.Lts as lts
 
--- src/token.rt:19:5
 mul-result : tie.Need-mul-result
 mul-result c = search needs
 
--- src/token.rt:19:5
 array-read-result : tie.Need-array-read-result
 array-read-result c = search needs
 
--- src/token.rt:15:1
 returns : tie.Need-returns
 unfolding range classOf lowered classKind isWhitespace
 returns c = class-rule (c .args .b) (search needs)

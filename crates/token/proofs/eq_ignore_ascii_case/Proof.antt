@@ -5,35 +5,27 @@ use borrow.Author.Needs.{needs}
 use Rattle.token.proofs.eq_ignore_ascii_case.Statement.{statement}
 use Rattle.token.proofs.eq_ignore_ascii_case.Tie as tie
 
--- src/token.rt:318:9
 returns : tie.Need-returns
 returns c = letters-equal _ _ (c .if1 .taken)
 
--- src/token.rt:320:8
 add-if2 : tie.Need-add-if2
 add-if2 c = search needs
 
--- src/token.rt:321:16
 to-ascii-lowercase-requires : tie.Need-to-ascii-lowercase-requires
 to-ascii-lowercase-requires c κs = search needs
 
--- src/token.rt:321:9
 returns-2 : tie.Need-returns-2
 returns-2 c = letters-near _ _ (c .before .if2 .taken) _ (c .to-ascii-lowercase .ensures)
 
--- src/token.rt:323:8
 add-if3 : tie.Need-add-if3
 add-if3 c = search needs
 
--- src/token.rt:324:16
 to-ascii-lowercase-requires-2 : tie.Need-to-ascii-lowercase-requires-2
 to-ascii-lowercase-requires-2 c κs = search needs
 
--- src/token.rt:324:9
 returns-3 : tie.Need-returns-3
 returns-3 c = letters-near _ _ (c .before .if3 .taken) _ (c .to-ascii-lowercase2 .ensures) ∙ letters-swap _ _
 
--- src/token.rt:314:1
 returns-4 : tie.Need-returns-4
 returns-4 c = letters-apart _ _ (c .before .before .if1 .left) (c .before .if2 .left) (c .if3 .left)
 

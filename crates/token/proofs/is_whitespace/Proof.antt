@@ -1,6 +1,7 @@
 use mathlib.Core.Path.{ap, _∙_}
 use lib.Dec.{eqb}
 use Prim.Native.Nat.{ℕ, _/_}
+use native.Mathlib.Omega.{arith}
 use Rattle.token.proofs.Bytes.{class-kind, kind-whitespace, white-above}
 use borrow.Author.Needs.{needs}
 use Rattle.token.proofs.is_whitespace.Statement.{statement}
@@ -9,15 +10,12 @@ use Rattle.token.proofs.is_whitespace.Reads as reads
 use Rattle.token.proofs.is_whitespace.Lts as lts
 use Rattle.token.proofs.class.Reads as class-reads
 
--- src/token.rt:295:9
 returns : tie.Need-returns
-returns c = white-above _ (c .if1 .taken)
+returns c = white-above _ _ (c .if1 .taken) (omega arith)
 
--- src/token.rt:297:5
 class-requires : tie.Need-class-requires
 class-requires c κs = search needs
 
--- src/token.rt:291:1
 returns-2 : tie.Need-returns-2
 returns-2 c = ap (λ (n : ℕ). eqb (n / 256) 1) (c .class .ensures) ∙ ap (λ (n : ℕ). eqb n 1) (class-kind _ (search needs)) ∙ kind-whitespace _
 

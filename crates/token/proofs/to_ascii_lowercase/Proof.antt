@@ -1,5 +1,6 @@
 use mathlib.Core.Path.{ap, _∙_}
 use Prim.Native.Nat.{ℕ, _%_}
+use native.Mathlib.Omega.{arith}
 use Rattle.token.proofs.Bytes.{class-partner, low-below, low-above}
 use borrow.Author.Needs.{needs}
 use Rattle.token.proofs.to_ascii_lowercase.Statement.{statement}
@@ -8,23 +9,18 @@ use Rattle.token.proofs.to_ascii_lowercase.Reads as reads
 use Rattle.token.proofs.to_ascii_lowercase.Lts as lts
 use Rattle.token.proofs.class.Reads as class-reads
 
--- src/token.rt:305:9
 returns : tie.Need-returns
-returns c = low-below _ (c .if1 .taken)
+returns c = low-below _ _ (c .if1 .taken) (omega arith)
 
--- src/token.rt:308:9
 returns-2 : tie.Need-returns-2
-returns-2 c = low-above _ (c .if2 .taken)
+returns-2 c = low-above _ _ (c .if2 .taken) (omega arith)
 
--- src/token.rt:310:6
 class-requires : tie.Need-class-requires
 class-requires c κs = search needs
 
--- src/token.rt:310:5
 cast-result : tie.Need-cast-result
 cast-result c = search needs
 
--- src/token.rt:301:1
 returns-3 : tie.Need-returns-3
 returns-3 c = ap (λ (n : ℕ). n % 256) (c .class .ensures) ∙ class-partner _ (search needs)
 

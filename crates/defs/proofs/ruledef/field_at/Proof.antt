@@ -1,6 +1,7 @@
 -- The word at the field's place.
 use mathlib.Core.Path.{ap, _∙_}
 use Prim.Native.Nat.{ℕ, _+_, _*_}
+use native.Mathlib.Omega.{arith}
 use denote.Ref.{now}
 use Rattle.defs.specs.Table.{wordAt, fieldAt}
 use borrow.Author.Needs.{needs}
@@ -28,7 +29,7 @@ word-at-requires-2 c κs = search needs
 returns : tie.Need-returns
 unfolding fieldAt
 returns c = (
-  c .word-at2 .ensures .0 ∙ ap (λ (s : ℕ). wordAt (now (c .before .before .before .args .table)) (3 + s + 3 * c .before .before .before .args .rule + c .before .before .before .args .which)) (c .before .word-at .ensures .0),
+  c .word-at2 .ensures .0 ∙ ap (wordAt (now (c .before .before .before .args .table))) (omega (arith, c .before .word-at .ensures .0)),
   c .word-at2 .ensures .1,
 )
 

@@ -35,7 +35,7 @@ slice-read-counts-2 : tie.Need-slice-read-counts-2 Inv-loop μ-loop
 slice-read-counts-2 c = omega arith
 
 add-counts-2 : tie.Need-add-counts-2 Inv-loop μ-loop
-add-counts-2 c = omega (arith, summed-next _ _ (c .before .before .loop-test .taken) _ (c .before .before .before .loop .inv .0), summed-fits (now (c .before .before .before .before .args .counts)) _ (c .before .before .loop-test .taken), c .before .before .before .before .pre .1)
+add-counts-2 c = omega (arith, summed-next _ _ (omega (arith, c .before .before .loop-test .taken)) _ (c .before .before .before .loop .inv .0), summed-fits (now (c .before .before .before .before .args .counts)) (c .before .before .before .loop .set) (omega (arith, c .before .before .loop-test .taken)), c .before .before .before .before .pre .1)
 
 add-counts-3 : tie.Need-add-counts-3 Inv-loop μ-loop
 add-counts-3 c = search needs
@@ -53,13 +53,13 @@ loop-less : tie.Need-loop-less Inv-loop μ-loop
 loop-less c = search needs
 
 loop-again : tie.Need-loop-again Inv-loop μ-loop
-loop-again c = (summed-set _ _ (c .before .before .loop-test .taken) _ (c .before .before .before .loop .inv .0), (simp length-set (c .before .before .before .loop .inv .1 .0), omega arith))
+loop-again c = (summed-set _ _ (omega (arith, c .before .before .loop-test .taken)) _ (c .before .before .before .loop .inv .0), (simp length-set (c .before .before .before .loop .inv .1 .0), omega arith))
 
 same-length : tie.Need-same-length Inv-loop μ-loop
 same-length c = omega (arith, c .before .before .pre .0, c .before .loop .inv .1 .0)
 
 returns : tie.Need-returns Inv-loop μ-loop
-returns c = c .before .loop .inv .0 ∙ summed-done _ _ (c .loop-test .left)
+returns c = c .before .loop .inv .0 ∙ summed-done _ _ (omega (arith, c .loop-test .left))
 
 pub sum-counts-spec : {M : Type 1} → statement M
 sum-counts-spec =

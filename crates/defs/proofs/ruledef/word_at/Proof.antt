@@ -9,7 +9,7 @@ use Rattle.defs.proofs.ruledef.word_at.Statement.{statement}
 use Rattle.defs.proofs.ruledef.word_at.Tie as tie
 
 mul-result : tie.Need-mul-result
-mul-result c = search needs
+mul-result c = omega arith
 
 shared-slice-read-result : tie.Need-shared-slice-read-result
 shared-slice-read-result c = search needs

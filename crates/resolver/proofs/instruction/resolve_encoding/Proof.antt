@@ -3,6 +3,7 @@
 use mathlib.Core.Path.{_≡_}
 use mathlib.Core.Logic.{⊎-elim}
 use mathlib.Core.Bool.{false, _&&_}
+use native.Mathlib.Omega.{arith}
 use borrow.Author.Needs.{needs}
 use denote.Ref.{now}
 use lib.Dec.{ltb}
@@ -18,7 +19,7 @@ judged :
     let given = c .before .before .before .before .before .before .before .args in
     let tally = c .before .before .judge .result in
     Judged (now (given .words)) (tally .resolved) (tally .known) (tally .guesses)
-judged c = none-bad (c .before .before .before .before .if1 .left) (c .before .before .judge .ensures) (c .if2 .left)
+judged c = none-bad (omega (arith, c .before .before .before .before .if1 .left)) (c .before .before .judge .ensures) (c .if2 .left)
 
 -- past the fourth some outcome is known, and the least size has been sought
 found :
@@ -48,7 +49,7 @@ no-tie c =
     ⊎-elim (λ few. and-false-right last _ (few .1 .left)) (λ guessing. and-false-left _ _ (guessing .left)) (c .if5 .came)
 
 returns : tie.Need-returns
-returns c = too-many _ _ _ (c .if1 .taken)
+returns c = too-many _ _ _ (omega (arith, c .if1 .taken))
 
 judge-requires : tie.Need-judge-requires
 judge-requires c κs = search needs
@@ -58,7 +59,7 @@ same-length c = search needs
 
 returns-2 : tie.Need-returns-2
 returns-2 c =
-    bad-word _ _ _ (c .before .before .before .before .if1 .left) (c .before .before .judge .ensures) (c .if2 .taken)
+    bad-word _ _ _ (omega (arith, c .before .before .before .before .if1 .left)) (c .before .before .judge .ensures) (c .if2 .taken)
 
 same-length-2 : tie.Need-same-length-2
 same-length-2 c = search needs
@@ -96,7 +97,7 @@ same-length-5 : tie.Need-same-length-5
 same-length-5 c = search needs
 
 returns-6 : tie.Need-returns-6
-returns-6 c = no-room _ _ _ (found (c .before .before)) (no-tie (c .before)) (c .if7 .taken)
+returns-6 c = no-room _ _ _ (found (c .before .before)) (no-tie (c .before)) (omega (arith, c .if7 .taken))
 
 write-requires : tie.Need-write-requires
 write-requires c κs =

@@ -17,11 +17,11 @@ add-result c = omega (arith, c .before .before .fits .word)
 
 returns : tie.Need-returns
 unfolding markedWord
-returns c = rw (← c .before .kind .ensures, le-leb _ _ (c .if1 .taken))
+returns c = rw (← c .before .kind .ensures, le-leb 1 (c .before .kind .result) (omega (arith, c .if1 .taken)))
 
 returns-2 : tie.Need-returns-2
 unfolding markedWord
-returns-2 c = rw (← c .before .kind .ensures, lt-leb _ _ (c .if1 .left))
+returns-2 c = rw (← c .before .kind .ensures, lt-leb 1 (c .before .kind .result) (omega (arith, c .if1 .left)))
 
 pub mark-guess-spec : {M : Type 1} → statement M
 mark-guess-spec = tie.close (tie.spec kind-requires sub-result add-result returns returns-2)

@@ -11,7 +11,7 @@ hold-requires : tie.Need-hold-requires
 hold-requires c κs = search needs
 
 returns : tie.Need-returns
-returns c = gap-end _ _ _ (c .before .hold .ensures) (c .if1 .taken)
+returns c = gap-end _ _ _ (c .before .hold .ensures) (omega (arith, c .if1 .taken))
 
 shared-slice-read-is-whitespace : tie.Need-shared-slice-read-is-whitespace
 shared-slice-read-is-whitespace c = omega (arith, held-is-within _ _ _ (c .before .before .hold .ensures) .1, c .before .if1 .left)
