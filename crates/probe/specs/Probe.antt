@@ -1,5 +1,5 @@
 -- The C structs' fields as the walker's values.
-use mathlib.Core.Bool.{Bool, true, false}
+use mathlib.Core.Bool.{Bool}
 use mathlib.Core.Option.{Option, none, some}
 use Prim.Native.Nat.{ℕ}
 use Rattle.plain.specs.Choice.{select}

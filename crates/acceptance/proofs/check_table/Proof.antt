@@ -7,7 +7,7 @@ use native.Mathlib.Omega.{arith}
 use denote.Ref.{now}
 use Rattle.plain.proofs.Tests.{and-on, and-off}
 use Rattle.plain.proofs.Calls.{refused, passed}
-use Rattle.defs.specs.Table.{rulesetsIn, recordsIn, partsIn, inRange, sizesFit, lengthFits, flagsFit, rulesetsFit, rangesFit, countsFit, parametersFit, tableFits}
+use Rattle.defs.specs.Table.{sizesFit, lengthFits, flagsFit, rulesetsFit, rangesFit, countsFit, tableFits}
 use Rattle.defs.proofs.Fits.{Sizes, sizes-bound}
 use Rattle.acceptance.proofs.Check.{sizes-are, length-fits, length-fails}
 use Rattle.acceptance.proofs.check_table.Statement.{statement}

@@ -1,6 +1,6 @@
 -- The loop's invariant: every word passed is a part.
 use borrow.Author.Needs.{needs}
-use mathlib.Core.Path.{_≡_, ap, ap₂, sym, _∙_}
+use mathlib.Core.Path.{_≡_}
 use mathlib.Core.Bool.{true}
 use Prim.Native.Nat.{_-_}
 use native.Mathlib.Omega.{arith}

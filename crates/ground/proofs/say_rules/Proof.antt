@@ -1,7 +1,6 @@
 -- The loop needs nothing of what it has passed: it tests its index.
 use borrow.Author.Needs.{needs}
-use Prim.Native.Nat.{ℕ, _-_, _≤_}
-use native.Mathlib.Omega.{arith}
+use Prim.Native.Nat.{_-_, _≤_}
 use Rattle.ground.proofs.say_rules.Statement.{statement}
 use Rattle.ground.proofs.say_rules.Tie as tie
 

@@ -1,11 +1,10 @@
 -- The loop's invariant: the rules passed that have the mark are written.
 use borrow.Author.Needs.{needs}
-use mathlib.Core.Path.{_≡_, refl, sym, _∙_}
-use Prim.Native.Nat.{ℕ, _-_, _≤_}
+use mathlib.Core.Path.{_≡_, refl}
+use Prim.Native.Nat.{_-_, _≤_}
 use native.Mathlib.Omega.{arith}
 use lib.Dec.{eqb}
 use lib.ListN.{length, getD, length-set}
-use denote.Ref.{now}
 use borrow.Author.Tests.{eq-eqb, ne-eqb}
 use Rattle.ruledef_map.specs.RuledefMap.{withMark}
 use Rattle.ruledef_map.proofs.Orders.{Written, written-none, written-room, written-hit, written-miss, written-all}

@@ -1,12 +1,11 @@
 -- The loop's invariant: the rules of the marks below this size are written.
 use borrow.Author.Needs.{needs}
-use mathlib.Core.Path.{_≡_, refl, sym, ap, _∙_}
-use Prim.Native.Nat.{ℕ, _-_, _≤_}
+use mathlib.Core.Path.{_≡_, refl, _∙_}
+use Prim.Native.Nat.{_-_, _≤_}
 use native.Mathlib.Omega.{arith}
 use lib.ListN.{length, length-take}
-use denote.Ref.{now}
 use Rattle.ruledef_map.specs.RuledefMap.{prefixBytes}
-use Rattle.ruledef_map.proofs.Orders.{Taken, taken-none, taken-room, taken-more, taken-all, below-room, put-many, put-short, put-all}
+use Rattle.ruledef_map.proofs.Orders.{Taken, taken-none, taken-room, taken-more, taken-all, put-many, put-short, put-all}
 use Rattle.ruledef_map.proofs.query_prefixed.Statement.{statement}
 use Rattle.ruledef_map.proofs.query_prefixed.Tie as tie
 

@@ -1,10 +1,9 @@
 -- The loop's invariant: the top rules passed are written.
 use borrow.Author.Needs.{needs}
-use mathlib.Core.Path.{_≡_, refl, sym, ap, _∙_}
-use Prim.Native.Nat.{ℕ, _-_, _≤_}
+use mathlib.Core.Path.{_≡_, refl, sym, _∙_}
+use Prim.Native.Nat.{_-_, _≤_}
 use native.Mathlib.Omega.{arith}
 use lib.ListN.{length, length-set}
-use denote.Ref.{now}
 use Rattle.defs.specs.Ruledef.{isTopRule}
 use Rattle.ruledef_map.specs.RuledefMap.{topRules}
 use Rattle.ruledef_map.proofs.Orders.{Written, written-none, written-hit, written-miss, written-first, put-many, put-short, put-all}

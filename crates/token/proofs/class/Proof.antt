@@ -1,4 +1,3 @@
-use mathlib.Core.Path.{refl}
 use Rattle.plain.specs.Lists.{range}
 use Rattle.token.specs.Token.{isWhitespace, lowered, classKind, classOf}
 use Rattle.token.proofs.Bytes.{class-rule}

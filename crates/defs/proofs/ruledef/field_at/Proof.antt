@@ -1,6 +1,5 @@
 -- The word at the field's place.
 use mathlib.Core.Path.{ap, _∙_}
-use Prim.Native.Nat.{ℕ, _+_, _*_}
 use native.Mathlib.Omega.{arith}
 use denote.Ref.{now}
 use Rattle.defs.specs.Table.{wordAt, fieldAt}

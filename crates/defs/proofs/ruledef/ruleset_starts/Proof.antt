@@ -1,5 +1,5 @@
 -- The tally of all records, summed up.
-use mathlib.Core.Path.{ap, _∙_}
+use mathlib.Core.Path.{_∙_}
 use native.Mathlib.Omega.{arith}
 use denote.Ref.{now}
 use Rattle.plain.specs.Lists.{range, listed}

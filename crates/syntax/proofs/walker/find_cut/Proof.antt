@@ -5,7 +5,7 @@ use mathlib.Core.Path.{_≡_, refl, sym, ap, _∙_}
 use Prim.Native.Nat.{ℕ, _≤_, _-_, _+_}
 use native.Mathlib.Omega.{arith}
 use denote.Ref.{now}
-use Rattle.syntax.specs.Cut.{fresh, cutFrom}
+use Rattle.syntax.specs.Cut.{cutFrom}
 use Rattle.syntax.specs.declared.walker.Turn.the-variants as Turn
 use Rattle.syntax.proofs.Cuts.{cut-end, cut-step, turn-grows}
 use Rattle.syntax.proofs.walker.find_cut.Statement.{statement}

@@ -1,6 +1,6 @@
 -- `has_seen` goes by what was seen before, then by the byte.
-use mathlib.Core.Path.{ap, _∙_}
-use mathlib.Core.Bool.{Bool, not}
+use mathlib.Core.Path.{ap}
+use mathlib.Core.Bool.{not}
 use borrow.Author.Needs.{needs}
 use Rattle.syntax.proofs.walker.has_seen.Statement.{statement}
 use Rattle.syntax.proofs.walker.has_seen.Tie as tie

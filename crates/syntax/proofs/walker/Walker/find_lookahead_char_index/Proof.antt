@@ -1,12 +1,9 @@
 -- The cut of the held walker.
-use mathlib.Core.Path.{_≡_, sym, ap, _∙_}
-use mathlib.Core.Option.{Option}
-use Prim.Native.Nat.{ℕ}
+use mathlib.Core.Path.{ap, _∙_}
 use denote.Ref.{now}
 use Rattle.syntax.specs.Walker.{held}
-use Rattle.syntax.specs.Cut.{fresh, cutFrom, cut}
-use Rattle.syntax.specs.declared.walker.Walker.{Walker}
-use Rattle.syntax.proofs.Useful.{InLine, held-is-within}
+use Rattle.syntax.specs.Cut.{cut}
+use Rattle.syntax.proofs.Useful.{held-is-within}
 use borrow.Author.Needs.{needs}
 use Rattle.syntax.proofs.walker.Walker.find_lookahead_char_index.Statement.{statement}
 use Rattle.syntax.proofs.walker.Walker.find_lookahead_char_index.Tie as tie

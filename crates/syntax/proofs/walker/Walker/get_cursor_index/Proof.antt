@@ -1,6 +1,5 @@
 -- The field itself.
 use native.Mathlib.Omega.{arith}
-use borrow.Author.Needs.{needs}
 use Rattle.syntax.proofs.walker.Walker.get_cursor_index.Statement.{statement}
 use Rattle.syntax.proofs.walker.Walker.get_cursor_index.Tie as tie
 

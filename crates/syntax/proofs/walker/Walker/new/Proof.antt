@@ -1,6 +1,5 @@
 -- The first place, and the line's end.
 use native.Mathlib.Omega.{arith}
-use borrow.Author.Needs.{needs}
 use Rattle.syntax.proofs.walker.Walker.new.Statement.{statement}
 use Rattle.syntax.proofs.walker.Walker.new.Tie as tie
 
