@@ -7,3 +7,15 @@ mod readings;
 mod refusals;
 mod selection;
 mod tables;
+
+/// The header and the crate are one interface, so they have one version.
+#[test]
+fn header_has_this_version() {
+    let header = include_str!("../../../include/tholdrimash.h");
+    let line = concat!(
+        "#define THOLDRIMASH_VERSION \"",
+        env!("CARGO_PKG_VERSION"),
+        "\"\n"
+    );
+    assert!(header.contains(line));
+}
