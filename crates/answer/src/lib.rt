@@ -65,7 +65,7 @@ fn add_match(
     if count < found.greatest {
         return found;
     }
-    let words = trees::tree_words(store, used, m);
+    let words = words::tree_words(store, used, m);
     if count == found.greatest {
         return Measure {
             matches: found.matches + 1,
@@ -108,7 +108,7 @@ pub fn write_answer(
         if pool::depth_at(store, m) == TOP {
             let count = trees::get_recursive_exact_part_count(table, starts, store, used, m);
             if count == greatest {
-                at = trees::write_tree(store, used, m, answer, at);
+                at = words::write_tree(store, used, m, answer, at);
             }
         }
     }

@@ -3,5 +3,4 @@ pub mod Sizes
 pub mod Parts
 pub mod Counts
 pub mod Sames
-pub mod Writes
 pub mod Tight

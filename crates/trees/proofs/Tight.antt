@@ -2,25 +2,13 @@
 -- stated over the contract itself, `Post`, so a weaker contract breaks it.
 use mathlib.Core.Path.{_≡_}
 use mathlib.Core.Bool.{Bool}
-use mathlib.Core.List.{List}
 use Prim.Native.Nat.{ℕ}
-use denote.Ref.{now}
 use Rattle.plain.proofs.Answers.{one-answer}
 use Rattle.trees.proofs.get_recursive_exact_part_count.Reads as get-recursive-exact-part-count
 use Rattle.trees.proofs.is_same.Reads as is-same
-use Rattle.trees.proofs.tree_words.Reads as tree-words
-use Rattle.trees.proofs.write_tree.Reads as write-tree
 
 pub get-recursive-exact-part-count-tight : (κs a : _) (r s : ℕ) (x y : _) → get-recursive-exact-part-count.Post κs a r x → get-recursive-exact-part-count.Post κs a s y → r ≡ s
 get-recursive-exact-part-count-tight κs a r s x y = one-answer
 
 pub is-same-tight : (κs a : _) (r s : Bool) (x y : _) → is-same.Post κs a r x → is-same.Post κs a s y → r ≡ s
 is-same-tight κs a r s x y = one-answer
-
-pub tree-words-tight : (κs a : _) (r s : ℕ) (x y : _) → tree-words.Post κs a r x → tree-words.Post κs a s y → r ≡ s
-tree-words-tight κs a r s x y = one-answer
-
--- with the lent answer as it stands at exit
-pub write-tree-tight : (κs a : _) (r s : ℕ) (x y : _) → write-tree.Post κs a r x → write-tree.Post κs a s y
-    → _≡_ {A = List ℕ × ℕ} (now (x .1 .1 .1 .0), r) (now (y .1 .1 .1 .0), s)
-write-tree-tight κs a r s x y = one-answer

@@ -3,8 +3,8 @@ use lib.ListN.{length-set}
 use native.Mathlib.Omega.{arith}
 use Rattle.plain.proofs.Buffers.{put-three}
 use borrow.Author.Needs.{needs}
-use Rattle.trees.proofs.write_words.Statement.{statement}
-use Rattle.trees.proofs.write_words.Tie as tie
+use Rattle.words.proofs.write_words.Statement.{statement}
+use Rattle.words.proofs.write_words.Tie as tie
 
 cast-answer : tie.Need-cast-answer
 cast-answer c = search needs

@@ -5,10 +5,10 @@ use native.Mathlib.Omega.{arith}
 use borrow.Author.Needs.{needs}
 use Rattle.readings.specs.Answer.{argCount}
 use Rattle.pool.specs.Meaning.{entries}
 use Rattle.trees.specs.Asked.{argsAt}
 use Rattle.trees.proofs.Arguments.{none-before, before, many-after}
-use Rattle.trees.proofs.count_arguments.Statement.{statement}
-use Rattle.trees.proofs.count_arguments.Tie as tie
+use Rattle.words.proofs.count_arguments.Statement.{statement}
+use Rattle.words.proofs.count_arguments.Tie as tie
 
 abbrev Inv-loop : tie.InvT-loop
 Inv-loop store used a count₀ at₀ count at =

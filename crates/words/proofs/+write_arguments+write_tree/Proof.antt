@@ -5,23 +5,23 @@ use mathlib.Core.Path.{ap}
 use borrow.Author.Needs.{needs}
 use borrow.Fn.Kinds.{In}
 use borrow.Fn.PlainCycle.{Measures, is, falls, and}
 use Rattle.trees.specs.Asked.{treeLength}
 use Rattle.trees.proofs.Arguments.{before, nest-earlier}
 use Rattle.trees.proofs.Sizes.{size-before, size-expr}
-use Rattle.trees.proofs.Writes.{words-sized, words-nest, tree-put, none-put, expr-put, nest-put}
+use Rattle.words.proofs.Writes.{words-sized, words-nest, tree-put, none-put, expr-put, nest-put}
 use Rattle.plain.proofs.Buffers.{put-end}
-use Rattle.trees.proofs.write_arguments.Reads as a-reads
-use Rattle.trees.proofs.write_arguments.Kinds as a-kinds
-use Rattle.trees.proofs.+write_arguments+write_tree.Lts-write_arguments as A
-use Rattle.trees.proofs.write_tree.Reads as m-reads
-use Rattle.trees.proofs.write_tree.Kinds as m-kinds
-use Rattle.trees.proofs.+write_arguments+write_tree.Lts-write_tree as M
+use Rattle.words.proofs.write_arguments.Reads as a-reads
+use Rattle.words.proofs.write_arguments.Kinds as a-kinds
+use Rattle.words.proofs.+write_arguments+write_tree.Lts-write_arguments as A
+use Rattle.words.proofs.write_tree.Reads as m-reads
+use Rattle.words.proofs.write_tree.Kinds as m-kinds
+use Rattle.words.proofs.+write_arguments+write_tree.Lts-write_tree as M
 use Rattle.pool.proofs.last_argument.Reads as last-argument
-use Rattle.trees.proofs.write_words.Reads as write-words
+use Rattle.words.proofs.write_words.Reads as write-words
 use Rattle.pool.proofs.match_at.Reads as match-at
-use Rattle.trees.proofs.count_arguments.Reads as count-arguments
-use Rattle.trees.proofs.+write_arguments+write_tree.{statement}
-use Rattle.trees.proofs.+write_arguments+write_tree.Tie.{close}
+use Rattle.words.proofs.count_arguments.Reads as count-arguments
+use Rattle.words.proofs.+write_arguments+write_tree.{statement}
+use Rattle.words.proofs.+write_arguments+write_tree.Tie.{close}
 
 abbrev μ-a : Measures 2 a-kinds.ps ℕ
 μ-a κs a = 2 * a .1 .1 .0

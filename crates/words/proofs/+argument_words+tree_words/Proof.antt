@@ -5,20 +5,20 @@ use mathlib.Core.Path.{ap}
 use borrow.Author.Needs.{needs}
 use borrow.Fn.Kinds.{In}
 use borrow.Fn.PlainCycle.{Measures, is, falls, and}
 use Rattle.trees.specs.Asked.{treeLength}
 use Rattle.trees.proofs.Arguments.{before, nest-earlier}
 use Rattle.trees.proofs.Sizes.{size-none, size-expr, head-asked, previous-asked, inner-asked}
-use Rattle.trees.proofs.Writes.{words-sized, words-nest}
-use Rattle.trees.proofs.argument_words.Reads as a-reads
-use Rattle.trees.proofs.argument_words.Kinds as a-kinds
-use Rattle.trees.proofs.+argument_words+tree_words.Lts-argument_words as A
-use Rattle.trees.proofs.tree_words.Reads as m-reads
-use Rattle.trees.proofs.tree_words.Kinds as m-kinds
-use Rattle.trees.proofs.+argument_words+tree_words.Lts-tree_words as M
+use Rattle.words.proofs.Writes.{words-sized, words-nest}
+use Rattle.words.proofs.argument_words.Reads as a-reads
+use Rattle.words.proofs.argument_words.Kinds as a-kinds
+use Rattle.words.proofs.+argument_words+tree_words.Lts-argument_words as A
+use Rattle.words.proofs.tree_words.Reads as m-reads
+use Rattle.words.proofs.tree_words.Kinds as m-kinds
+use Rattle.words.proofs.+argument_words+tree_words.Lts-tree_words as M
 use Rattle.pool.proofs.last_argument.Reads as last-argument
 use Rattle.pool.proofs.match_at.Reads as match-at
-use Rattle.trees.proofs.+argument_words+tree_words.{statement}
-use Rattle.trees.proofs.+argument_words+tree_words.Tie.{close}
+use Rattle.words.proofs.+argument_words+tree_words.{statement}
+use Rattle.words.proofs.+argument_words+tree_words.Tie.{close}
 
 abbrev μ-a : Measures 1 a-kinds.ps ℕ
 μ-a κs a = 2 * a .1 .1 .0
