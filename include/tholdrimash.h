@@ -92,8 +92,8 @@ tholdrimash_answer tholdrimash_match(const uint16_t *table, size_t table_len, co
                                      const uint8_t *sheet, size_t sheet_len, uint32_t budget, uint16_t *answer,
                                      size_t answer_len);
 
-/* The same by prefix lookup: whenever the scan is not refused by 6, 7 or 8, the same readings with no more visits. Their
- * order may differ: by the length of the rule's prefix, then the table's order.
+/* The same by prefix lookup: whenever the scan is not refused by 6, 7 or 8, the same number, readings and words with no more
+ * visits. The readings' order may differ: by the length of the rule's prefix, then the table's order.
  */
 tholdrimash_answer tholdrimash_lookup(const uint16_t *table, size_t table_len, const uint8_t *line, size_t line_len,
                                       const uint8_t *sheet, size_t sheet_len, uint32_t budget, uint16_t *answer,
