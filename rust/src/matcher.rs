@@ -211,8 +211,9 @@ pub fn match_line(
 
 /// The same by prefix lookup: it tries only the rules that the line's first bytes lead to.
 ///
-/// Whenever [`match_line`] is not refused by 6, 7 or 8, these are the same readings with no more
-/// visits. Their order may differ: by the length of the rule's prefix, then the table's order.
+/// Whenever [`match_line`] is not refused by 6, 7 or 8, this has the same number, readings and words
+/// with no more visits. The readings' order may differ: by the length of the rule's prefix, then
+/// the table's order.
 ///
 /// ```
 /// use tholdrimash::{lookup_line, match_line, Answer};
