@@ -69,6 +69,11 @@ pub sum-more : (i : ℕ) (f : ℕ → ℕ) → sumBelow (i + 1) f ≡ sumBelow i
 unfolding sumBelow
 sum-more i f = rw add-one
 
+pub sum-same : (n : ℕ) (f g : ℕ → ℕ) → ((i : ℕ) → i < n → f i ≡ g i) → sumBelow n f ≡ sumBelow n g
+unfolding sumBelow
+sum-same zero f g h = refl
+sum-same (suc n) f g h = ap₂ _+_ (sum-same n f g (λ i l. h i (omega arith))) (h n (omega arith))
+
 -- a sum only grows with the bound
 pub sum-grows : (m n : ℕ) (f : ℕ → ℕ) → m ≤ n → sumBelow m f ≤ sumBelow n f
 unfolding sumBelow

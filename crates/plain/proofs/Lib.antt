@@ -1,7 +1,9 @@
 pub mod Tests
 pub mod Below
 pub mod Lists
+pub mod Every
 pub mod Buffers
+pub mod Sets
 pub mod Calls
 pub mod Answers
 pub mod Members

@@ -192,3 +192,39 @@ kept-both {A} f g (x ∷ xs) = go (f x) (kept-both f g xs)
         → keepIf g (select b (x ∷ keepIf f xs) (keepIf f xs)) ≡ select (b && g x) (x ∷ keepIf (λ y. f y && g y) xs) (keepIf (λ y. f y && g y) xs)
     go true e = ap (λ (l : List A). select (g x) (x ∷ l) l) e
     go false e = e
+
+pub listed-more : {A : Type 0} (n : ℕ) (f : ℕ → A) → listed (suc n) f ≡ listed n f ++ (f n ∷ [])
+unfolding listed
+listed-more n f = ap (map f) (range-more 0 n) ∙ joined (range 0 n) (0 + n) ∙ ap (λ (m : ℕ). map f (range 0 n) ++ (f m ∷ [])) (omega arith)
+  where
+    joined : (xs : List ℕ) (m : ℕ) → map f (xs ++ (m ∷ [])) ≡ map f xs ++ (f m ∷ [])
+    joined [] m = refl
+    joined (x ∷ xs) m = ap (λ (l : List _). f x ∷ l) (joined xs m)
+
+-- a list at a place
+
+pub record Split {A : Type 0} (l : List A) (i : ℕ) : Type 0 where
+  pub before : List A
+  pub it : A
+  pub after : List A
+  pub is : l ≡ before ++ (it ∷ after)
+  pub size : length before ≡ i
+
+pub split-of : {A : Type 0} (l : List A) (i : ℕ) → i < length l → Split l i
+split-of [] i h = absurd (omega arith)
+split-of (x ∷ l) zero h = record { before = []; it = x; after = l; is = refl; size = refl }
+split-of (x ∷ l) (suc i) h =
+    let s = split-of l i (omega arith) in
+    record { before = x ∷ s .before; it = s .it; after = s .after; is = ap (λ (m : List _). x ∷ m) (s .is); size = ap suc (s .size) }
+
+-- a list is what its entries say
+pub listed-is : {A : Type 0} (l : List A) (f : ℕ → A) → ((xs : List A) (x : A) (ys : List A) → l ≡ xs ++ (x ∷ ys) → f (length xs) ≡ x) → listed (length l) f ≡ l
+unfolding listed range
+listed-is {A} l f h = from l [] 0 refl h
+  where
+    from : (ys xs : List A) (k : ℕ) → length xs ≡ k → ((as′ : List A) (x : A) (bs : List A) → xs ++ ys ≡ as′ ++ (x ∷ bs) → f (length as′) ≡ x)
+        → map f (range k (length ys)) ≡ ys
+    from [] xs k e g = refl
+    from (y ∷ ys) xs k e g =
+        ap₂ _∷_ (ap f (sym e) ∙ g xs y ys refl)
+        (from ys (xs ++ (y ∷ [])) (suc k) (omega (arith, length-append xs (y ∷ []))) (λ p x q c. g p x q (sym (append-assoc xs (y ∷ []) ys) ∙ c)))

@@ -1,5 +1,5 @@
 -- Lists: the numbers from one on, and the members of which a test holds.
-use mathlib.Core.Bool.{Bool, false, _||_}
+use mathlib.Core.Bool.{Bool, true, false, _&&_, _||_}
 use mathlib.Core.Path.{_≡_}
 use mathlib.Core.List.{List, [], _∷_, map, List·Memᴰ}
 use Prim.Native.Nat.{ℕ, zero, suc}
@@ -20,6 +20,11 @@ module _ {A : Type 0} (f : A → Bool) where
   unfoldable pub some-of : List A → Bool
   some-of [] = false
   some-of (x ∷ xs) = f x || some-of xs
+
+  -- the test holds of every member
+  unfoldable pub every : List A → Bool
+  every [] = true
+  every (x ∷ xs) = f x && every xs
 
   -- how many members the test holds of
   unfoldable pub count : List A → ℕ

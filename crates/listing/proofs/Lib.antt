@@ -1,0 +1,5 @@
+pub mod Laying
+pub mod Writes
+pub mod Scans
+pub mod Counts
+pub mod Steps

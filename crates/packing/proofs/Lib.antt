@@ -1,0 +1,4 @@
+pub mod Limits
+pub mod Tables
+pub mod Packs
+pub mod Says
