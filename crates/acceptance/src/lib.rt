@@ -9,13 +9,6 @@ ghost use lib.ListN.{length};
 ghost use Rattle.defs.specs.Table.{rulesetsIn, recordsIn, partsIn, partsFrom, parametersIn, isPart};
 ghost use Rattle.defs.specs.Table.{inRange, flagsFit, rulesetsFit, rangesFit, countsFit, parametersFit, partsFit, tableFits};
 
-// Document 01's limits, beside those of rulesets and rules.
-const MOST_PARTS: usize = 8192;
-
-const MOST_PARTS_A_RULE: usize = 64;
-
-const MOST_PARAMETERS: usize = 8;
-
 // The bytes that an exact part may be.
 const FIRST_PRINTED: usize = 33;
 
@@ -75,7 +68,7 @@ fn ranges_fit(table: &[u16], rules: usize, parts: usize) -> bool
         if parts < ruledef::field_at(table, rule, ruledef::FIRST) + count {
             return false;
         }
-        if MOST_PARTS_A_RULE < count {
+        if ruledef::MOST_PARTS_A_RULE < count {
             return false;
         }
         sum += count;
@@ -105,10 +98,10 @@ fn parameters_of(table: &[u16], rule: u16) -> usize
 fn has_few_parameters(table: &[u16], rule: u16) -> bool
     ensures { λ r. ⌜ r ≡ leb (parametersIn (now (table .entry)) rule) 8 ⌝ }
 {
-    if ruledef::field_at(table, rule, ruledef::COUNT) <= MOST_PARAMETERS {
+    if ruledef::field_at(table, rule, ruledef::COUNT) <= ruledef::MOST_PARAMETERS {
         return true;
     }
-    parameters_of(table, rule) <= MOST_PARAMETERS
+    parameters_of(table, rule) <= ruledef::MOST_PARAMETERS
 }
 
 // At most 8 parameters a rule.
@@ -128,9 +121,8 @@ fn parameters_fit(table: &[u16], rules: usize) -> bool
 }
 
 // Whether a word is a part of a table of so many rulesets.
-fn is_part(word: usize, sets: usize) -> bool
-    requires { ⌜ sets ≤ 32 ⌝ }
-    ensures { λ r. ⌜ r ≡ isPart sets word ⌝ }
+pub fn is_part(word: usize, sets: usize) -> bool
+    ensures answers { λ r. ⌜ r ≡ isPart sets word ⌝ }
 {
     if word < FIRST_PRINTED {
         return false;
@@ -147,7 +139,7 @@ fn is_part(word: usize, sets: usize) -> bool
     if word < ruledef::NESTED {
         return false;
     }
-    word < ruledef::NESTED + sets
+    word - ruledef::NESTED < sets
 }
 
 // All P words are checked, spares included.
@@ -182,7 +174,7 @@ fn sizes_fit(sets: usize, rules: usize, parts: usize) -> bool
     if ruledef::MOST_RULES < rules {
         return false;
     }
-    parts <= MOST_PARTS
+    parts <= ruledef::MOST_PARTS
 }
 
 // Whether the words are a table, as document 01 has it; if not, number 2.

@@ -4,11 +4,12 @@ use mathlib.Core.Option.{Option, none, some}
 use mathlib.Core.List.{List, [], _∷_, _++_}
 use Prim.Native.Nat.{ℕ}
 use lib.ListN.{length, replicate, set}
+use Rattle.plain.specs.Told.{Told}
 use Rattle.syntax.specs.Cut.{cut}
 use Rattle.ruledef_map.specs.RuledefMap.{linePrefix, rulePrefix}
 use Rattle.defs.specs.declared.ruledef.Part.the-variants.{Exact, Whitespace}
 use Rattle.readings.specs.Scene.{walkerAt}
-use Rattle.readings.specs.Call.{Told, scanCall, lookupCall}
+use Rattle.readings.specs.Call.{scanCall, lookupCall}
 use Rattle.resolver.specs.Selection.{Selected, selected}
 
 -- a table of one top ruleset with one rule

@@ -32,6 +32,12 @@ pub const MOST_RULESETS: usize = 32;
 
 pub const MOST_RULES: usize = 512;
 
+pub const MOST_PARTS: usize = 8192;
+
+pub const MOST_PARTS_A_RULE: usize = 64;
+
+pub const MOST_PARAMETERS: usize = 8;
+
 // Part words: a byte below the first, whitespace, an expression, or a ruleset from the last on.
 pub const WHITESPACE: usize = 256;
 

@@ -1,7 +1,7 @@
 -- Fields of a text as the code reads them, by places: bytes sought and compared, numbers and parts.
 use mathlib.Core.Path.{_≡_, refl, sym, ap, ap₂, _∙_}
 use mathlib.Core.Logic.{_⊎_, inl, inr}
-use mathlib.Core.Bool.{Bool, true, false, not, _&&_}
+use mathlib.Core.Bool.{Bool, true, false, not, _&&_, or-false}
 use mathlib.Core.List.{[], _∷_, _++_}
 use mathlib.Core.Option.{Option, none, some}
 use Prim.Native.Nat.{ℕ, suc, _+_, _*_, _-_, _/_, _%_, _≤_, _<_}
@@ -10,19 +10,19 @@ use native.Mathlib.Omega.{arith}
 use lib.Dec.{eqb, leb}
 use lib.ListN.{length, getD, take, drop, length-take, drop-of-length-le, take-append-drop}
 use lib.Seq.{slice, slice-empty, slice-cons, length-slice, take-suc, drop-cons, drop-append-le, take-take, length-take-le}
-use borrow.Author.Tests.{leb-true, eq-eqb, ne-eqb, le-leb, lt-ltb, le-ltb}
+use borrow.Author.Tests.{leb-true, eq-eqb, ne-eqb, le-leb, lt-ltb, le-ltb, lt-leb}
 use Rattle.plain.specs.Choice.{select}
 use Rattle.plain.specs.Lists.{every}
+use Rattle.defs.specs.Table.{isPart}
 use Rattle.plain.proofs.Tests.{tested, not-both, and-left, and-right, and-both, and-false-left}
 use Rattle.defs.specs.declared.ruledef.Part.the-variants.{Exact, Whitespace, Expression}
 use Rattle.printing.specs.Listing.{Bytes, wsWord, exprWord, subWord, decimal}
 use Rattle.printing.specs.Reading.{same, numberOf, nestedIn, otherPart, partIn}
 use Rattle.printing.specs.FirstBad.{lacks}
 use Rattle.printing.proofs.Pieces.{same-true, lacks-append}
-use Rattle.printing.proofs.Decimals.{number-decimal, number-is}
+use Rattle.printing.proofs.Decimals.{number-decimal, number-is, decimal-one, decimal-two}
 use Rattle.printing.proofs.Fields.{part-read}
 use Rattle.listing.specs.Judging.{lowNumber, digitOf, exactWord, wordIn}
-use Rattle.listing.proofs.Laying.{decimal-one, decimal-two}
 
 -- ---- a byte sought
 
@@ -188,25 +188,18 @@ slice-size t at end h = length-slice at end t h
 
 -- ---- parts
 
-pub exact-no : (b : ℕ) → (33 ≤ b → b ≤ 126 → (b ≡ 59 → ⊥) → ⊥) → 0 ≡ exactWord b
-unfolding exactWord
-exact-no b n = go (tested (leb 33 b && leb b 126 && not (eqb b 59)))
-  where
-    other : (x : Bool) → not x ≡ true → x ≡ false
-    other true h = absurd (not-both h refl)
-    other false h = refl
+-- a byte is a part of a table without rulesets exactly if it is an exact part
+is-exact : (b : ℕ) → b < 256 → isPart 0 b ≡ (leb 33 b && leb b 126 && not (eqb b 59))
+unfolding isPart
+is-exact b h = rw (isPart, ne-eqb b 256 (λ e. omega arith), ne-eqb b 257 (λ e. omega arith), lt-leb 512 b (omega arith)) (simp or-false)
 
-    go : ((leb 33 b && leb b 126 && not (eqb b 59)) ≡ true) ⊎ ((leb 33 b && leb b 126 && not (eqb b 59)) ≡ false)
-        → 0 ≡ select (leb 33 b && leb b 126 && not (eqb b 59)) b 0
-    go (inl h) =
-        let both = and-left (leb 33 b && leb b 126) _ h in
-        let off = other (eqb b 59) (and-right (leb 33 b && leb b 126) _ h) in
-        absurd (n (leb-true 33 b (and-left (leb 33 b) _ both)) (leb-true b 126 (and-right (leb 33 b) _ both)) (λ e. not-both (eq-eqb b 59 e) off))
-    go (inr h) = sym (ap (λ (x : Bool). select x b 0) h)
-
-pub exact-yes : (b : ℕ) → 33 ≤ b → b ≤ 126 → (b ≡ 59 → ⊥) → b ≡ exactWord b
+pub exact-yes : (b : ℕ) → b < 256 → isPart 0 b ≡ true → b ≡ exactWord b
 unfolding exactWord
-exact-yes b h l n = sym (ap (λ (x : Bool). select x b 0) (and-both _ _ (and-both _ _ (le-leb 33 b h) (le-leb b 126 l)) (ap not (ne-eqb b 59 n))))
+exact-yes b h e = sym (ap (λ (x : Bool). select x b 0) (sym (is-exact b h) ∙ e))
+
+pub exact-no : (b : ℕ) → b < 256 → isPart 0 b ≡ false → 0 ≡ exactWord b
+unfolding exactWord
+exact-no b h e = sym (ap (λ (x : Bool). select x b 0) (sym (is-exact b h) ∙ e))
 
 module _ (s : ℕ) where
   pub word-exact : (x : Bytes) (b : ℕ) → x ≡ b ∷ [] → exactWord b ≡ wordIn s (partIn x)

@@ -18,12 +18,12 @@ use Rattle.defs.specs.declared.ruledef.Part.{Part}
 use Rattle.packing.specs.Data.{Rule, Data, isPartOf, ruleFits, ascend, partsOf, dataFits, dataFrom, rule}
 use Rattle.packing.proofs.Limits.{fits-all, all-fits, partsOf-append}
 use Rattle.packing.proofs.Tables.{lastOf-more}
-use Rattle.printing.specs.Listing.{Bytes, topField, topWord, nestedWord, rulesetWord, ruleWord, parted}
+use Rattle.printing.specs.Listing.{linesOf, Bytes, topField, topWord, nestedWord, rulesetWord, ruleWord, parted}
 use Rattle.printing.specs.Reading.{same, pieces, numberOf, partsIn, both, topIn, ruleIn, checked, withTop, withRule, addTop, addRule, readFields, readLine, good, bad, readFrom, nothing, read}
 use Rattle.printing.specs.FirstBad.{lacks}
 use Rattle.printing.proofs.Pieces.{same-refl, same-true, piece-last, piece-first, pieces-some, parted-pieces}
 use Rattle.printing.proofs.Fields.{top-is}
-use Rattle.printing.proofs.Accepts.{checked-is, read-next}
+use Rattle.printing.proofs.Accepts.{checked-is, read-next, line-added, lines-many}
 use Rattle.printing.proofs.Refuses.{stops}
 use Rattle.listing.specs.declared.reading.Sizes.{Sizes as Sums}
 use Rattle.listing.specs.declared.reading.Line.{Line}
@@ -255,75 +255,87 @@ says-as {o} {u} r e h = subst (λ (x : Option Data). LineSays x r) e h
 
 -- ---- the whole text, from a line's first byte on
 
--- the text from here is read as the whole text is
-pub record From (t : Bytes) (at line : ℕ) (s r p l : ℕ) : Type 0 where
+-- the text from here is read as the whole text is; each line before is a ruleset or a rule
+pub record From (t : Bytes) (at : ℕ) (s r p l : ℕ) : Type 0 where
   pub so-far : Data
   pub counted : Counted so-far s r p l
-  pub same-read : readFrom line so-far (pieces 10 (drop at t)) ≡ read t
-  pub lines : line ≤ at
+  pub same-read : readFrom (s + r) so-far (pieces 10 (drop at t)) ≡ read t
 
-pub from-start : (t : Bytes) → From t 0 0 0 0 0 0
+pub from-start : (t : Bytes) → From t 0 0 0 0 0
 unfolding read partsOf
-from-start t = record { so-far = nothing; counted = record { reached = inl refl; sets = refl; rules = refl; parts = refl; last = refl }; same-read = refl; lines = omega arith }
+from-start t = record { so-far = nothing; counted = record { reached = inl refl; sets = refl; rules = refl; parts = refl; last = refl }; same-read = refl }
 
 slice-all : (t : Bytes) (at : ℕ) → slice at (length t) t ≡ drop at t
 slice-all t at = ap (drop at) (take-length t)
 
-module _ (t : Bytes) (at line s r p l : ℕ) (h : From t at line s r p l) where
+pub cut-line : (t : Bytes) (at end : ℕ) → Found t at (length t) 10 end → end < length t → pieces 10 (drop at t) ≡ slice at end t ∷ pieces 10 (drop (end + 1) t)
+cut-line t at end f b =
+    let next : suc end ≡ end + 1 = omega arith in
+    ap (pieces 10)
+    (sym (slice-all t at) ∙ slice-cut t at end (length t) (f .from) (f .to) (omega arith)
+    ∙ ap (λ (x : Bytes). slice at end t ++ x) (slice-all t end ∙ drop-cons t end 0 b ∙ ap₂ (λ (c n : ℕ). c ∷ drop n t) (f .holds b) next))
+    ∙ piece-first 10 (slice at end t) (drop (end + 1) t) (f .before)
+
+-- one line more, one ruleset or rule more
+lines-more : (d e : Data) (line : Bytes) → readLine d line ≡ some e → length (e .tops) + length (e .rules) ≡ suc (length (d .tops) + length (d .rules))
+lines-more d e line h =
+    omega (arith, ap length (line-added d e line h .lines), length-append (linesOf d) (line ∷ []), lines-many d, lines-many e)
+
+module _ (t : Bytes) (at s r p l : ℕ) (h : From t at s r p l) where
+  pub few-lines : s + r ≤ 544
+  few-lines = omega (arith, counted-small (h .so-far) s r p l (h .counted))
+
   -- no line end is left: the end is wrong
-  pub from-unended : (end : ℕ) → at < length t → Found t at (length t) 10 end → end ≡ length t → read t ≡ bad line
+  pub from-unended : (end : ℕ) → at < length t → Found t at (length t) 10 end → end ≡ length t → (read t ≡ bad (s + r)) × (s + r ≤ 544)
   unfolding readFrom same
-  from-unended end low f e =
-      sym (h .same-read)
-      ∙ ap (readFrom line (h .so-far)) (piece-last 10 (drop at t) (ap (lacks 10) (sym (slice-all t at) ∙ ap (λ (n : ℕ). slice at n t) (sym e)) ∙ f .before))
-      ∙ ap (λ (b : Bool). select (b && dataFits (h .so-far)) (good (h .so-far)) (bad line)) (same-not (drop at t) [] (λ k. omega (arith, k, length-drop at t)))
+  from-unended end low f e = (
+    sym (h .same-read)
+        ∙ ap (readFrom (s + r) (h .so-far)) (piece-last 10 (drop at t) (ap (lacks 10) (sym (slice-all t at) ∙ ap (λ (n : ℕ). slice at n t) (sym e)) ∙ f .before))
+        ∙ ap (λ (b : Bool). select (b && dataFits (h .so-far)) (good (h .so-far)) (bad (s + r))) (same-not (drop at t) [] (λ k. omega (arith, k, length-drop at t))),
+    few-lines,
+  )
 
-  cut-line : (end : ℕ) → at < length t → Found t at (length t) 10 end → end < length t → pieces 10 (drop at t) ≡ slice at end t ∷ pieces 10 (drop (end + 1) t)
-  cut-line end low f b =
-      let next : suc end ≡ end + 1 = omega arith in
-      ap (pieces 10)
-      (sym (slice-all t at) ∙ slice-cut t at end (length t) (f .from) (f .to) (omega arith)
-      ∙ ap (λ (x : Bytes). slice at end t ++ x) (slice-all t end ∙ drop-cons t end 0 b ∙ ap₂ (λ (c n : ℕ). c ∷ drop n t) (f .holds b) next))
-      ∙ piece-first 10 (slice at end t) (drop (end + 1) t) (f .before)
+  pub from-bad : (end : ℕ) → Found t at (length t) 10 end → end < length t → readLine (h .so-far) (slice at end t) ≡ none → (read t ≡ bad (s + r)) × (s + r ≤ 544)
+  from-bad end f b q = (
+    sym (h .same-read) ∙ ap (readFrom (s + r) (h .so-far)) (cut-line t at end f b)
+        ∙ stops (s + r) (h .so-far) (slice at end t) (pieces 10 (drop (end + 1) t)) (pieces-some 10 (drop (end + 1) t)) q,
+    few-lines,
+  )
 
-  pub from-bad : (end : ℕ) → at < length t → Found t at (length t) 10 end → end < length t → readLine (h .so-far) (slice at end t) ≡ none → read t ≡ bad line
-  from-bad end low f b q =
-      sym (h .same-read) ∙ ap (readFrom line (h .so-far)) (cut-line end low f b)
-      ∙ stops line (h .so-far) (slice at end t) (pieces 10 (drop (end + 1) t)) (pieces-some 10 (drop (end + 1) t)) q
-
-  pub from-next : (end : ℕ) → at < length t → Found t at (length t) 10 end → end < length t → (s′ r′ p′ l′ : ℕ)
-      → (e : Data) × (readLine (h .so-far) (slice at end t) ≡ some e) × Counted e s′ r′ p′ l′ → From t (end + 1) (line + 1) s′ r′ p′ l′
-  from-next end low f b s′ r′ p′ l′ z =
-      let next : suc line ≡ line + 1 = omega arith in
+  pub from-next : (end : ℕ) → Found t at (length t) 10 end → end < length t → (s′ r′ p′ l′ : ℕ)
+      → (e : Data) × (readLine (h .so-far) (slice at end t) ≡ some e) × Counted e s′ r′ p′ l′ → From t (end + 1) s′ r′ p′ l′
+  from-next end f b s′ r′ p′ l′ z =
+      let c = h .counted in
+      let d = z .2 in
+      let next : s′ + r′ ≡ suc (s + r) = omega (arith, lines-more (h .so-far) (z .0) (slice at end t) (z .1), c .sets, c .rules, d .sets, d .rules) in
       record {
         so-far = z .0;
-        counted = z .2;
+        counted = d;
         same-read =
-            ap (λ (n : ℕ). readFrom n (z .0) (pieces 10 (drop (end + 1) t))) (sym next)
-            ∙ sym (read-next line (h .so-far) (z .0) (slice at end t) (pieces 10 (drop (end + 1) t)) (pieces-some 10 (drop (end + 1) t)) (z .1))
-            ∙ ap (readFrom line (h .so-far)) (sym (cut-line end low f b)) ∙ h .same-read;
-        lines = omega (arith, h .lines, f .from);
+            ap (λ (n : ℕ). readFrom n (z .0) (pieces 10 (drop (end + 1) t))) next
+            ∙ sym (read-next (s + r) (h .so-far) (z .0) (slice at end t) (pieces 10 (drop (end + 1) t)) (pieces-some 10 (drop (end + 1) t)) (z .1))
+            ∙ ap (readFrom (s + r) (h .so-far)) (sym (cut-line t at end f b)) ∙ h .same-read;
       }
 
-  last-piece : length t ≤ at → readFrom line (h .so-far) ([] ∷ []) ≡ read t
+  last-piece : length t ≤ at → readFrom (s + r) (h .so-far) ([] ∷ []) ≡ read t
   unfolding pieces
-  last-piece e = ap (λ (x : Bytes). readFrom line (h .so-far) (pieces 10 x)) (sym (drop-of-length-le t {i = at} e)) ∙ h .same-read
+  last-piece e = ap (λ (x : Bytes). readFrom (s + r) (h .so-far) (pieces 10 x)) (sym (drop-of-length-le t {i = at} e)) ∙ h .same-read
 
-  pub from-none : length t ≤ at → s ≡ 0 → read t ≡ bad line
+  pub from-none : length t ≤ at → s ≡ 0 → (read t ≡ bad (s + r)) × (s + r ≤ 544)
   unfolding readFrom same
-  from-none e z = sym (last-piece e) ∙ go (tested (dataFits (h .so-far)))
+  from-none e z = (sym (last-piece e) ∙ go (tested (dataFits (h .so-far))), few-lines)
     where
-      go : (dataFits (h .so-far) ≡ true) ⊎ (dataFits (h .so-far) ≡ false) → readFrom line (h .so-far) ([] ∷ []) ≡ bad line
+      go : (dataFits (h .so-far) ≡ true) ⊎ (dataFits (h .so-far) ≡ false) → readFrom (s + r) (h .so-far) ([] ∷ []) ≡ bad (s + r)
       go (inl f) = absurd (omega (arith, z, h .counted .sets, fits-all (h .so-far .tops) (h .so-far .rules) f .sizes))
-      go (inr f) = ap (λ (b : Bool). select b (good (h .so-far)) (bad line)) f
+      go (inr f) = ap (λ (b : Bool). select b (good (h .so-far)) (bad (s + r))) f
 
   pub from-good : length t ≤ at → (s ≡ 0 → ⊥) → (e : Data) × (read t ≡ good e) × Counted e s r p l
   unfolding readFrom same
   from-good e n = (h .so-far, sym (last-piece e) ∙ go (h .counted .reached), h .counted)
     where
-      go : (h .so-far ≡ nothing) ⊎ (dataFits (h .so-far) ≡ true) → readFrom line (h .so-far) ([] ∷ []) ≡ good (h .so-far)
+      go : (h .so-far ≡ nothing) ⊎ (dataFits (h .so-far) ≡ true) → readFrom (s + r) (h .so-far) ([] ∷ []) ≡ good (h .so-far)
       go (inl x) = absurd (n (h .counted .sets ∙ ap (λ (y : Data). length (y .tops)) x))
-      go (inr f) = ap (λ (b : Bool). select b (good (h .so-far)) (bad line)) f
+      go (inr f) = ap (λ (b : Bool). select b (good (h .so-far)) (bad (s + r))) f
 
 -- an answer on a line, case by case
 pub says-bad : (o : Option Data) (r : Line) → r ≡ Bad → LineSays o r → o ≡ none

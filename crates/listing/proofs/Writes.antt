@@ -6,40 +6,30 @@ use Prim.Native.Nat.{ℕ, suc, _+_, _*_, _-_, _≤_, _<_}
 use native.Mathlib.Decide.{decLt}
 use native.Mathlib.Omega.{arith}
 use lib.Dec.{eqb, leb, ltb}
-use lib.ListN.{length, drop, length-append}
-use lib.Seq.{sets, sets-eq}
+use lib.ListN.{length, length-append}
 use borrow.Author.Tests.{ltb-true, lt-ltb, le-leb, lt-leb}
 use Rattle.plain.specs.Lists.{range, count, listed, every}
 use Rattle.plain.proofs.Tests.{and-left, and-right, and-both}
+use Rattle.plain.proofs.Sets.{sets-start}
 use Rattle.defs.specs.Table.{wordAt, rulesetsIn, recordsIn, partsIn, flagAt, rulesetAt, partOf, ruleSpan, ruleParts, partsBetween, isParameter, tableFits}
 use Rattle.defs.specs.Ruledef.{isTop}
 use Rattle.defs.specs.declared.ruledef.Part.{Part}
 use Rattle.defs.specs.declared.ruledef.Parts.{Parts}
 use Rattle.defs.specs.declared.ruledef.Part.the-variants.{Exact, Whitespace, Expression, Nested}
 use Rattle.defs.proofs.Words.{parts-whole, parts-none, parts-next}
+use Rattle.defs.proofs.Fits.{Sizes, sizes-bound}
 use Rattle.packing.specs.Data.{Rule, Data, isPartOf, ruleFits, partsOf, dataFits}
 use Rattle.packing.specs.Packed.{ruleAt, dataOf}
-use Rattle.packing.proofs.Limits.{Sizes, range-sizes, fits-all}
+use Rattle.packing.proofs.Limits.{fits-all}
 use Rattle.packing.proofs.Tables.{Accepted, accepted-all, set-test, range-test, parts-each, table-fits}
-use Rattle.printing.specs.Listing.{Bytes, decimal, partField, parted, ended, topLine, ruleLine, linesOf, listing}
+use Rattle.printing.specs.Listing.{Bytes, rulesetWord, ruleWord, topField, decimal, partField, parted, ended, topLine, ruleLine, linesOf, listing}
 use Rattle.printing.proofs.Pieces.{ended-append}
-use Rattle.listing.specs.declared.writing.Written.the-variants.{Whole, BadTable, NoRoom}
-use Rattle.listing.specs.Writing.{Laid, Ready, partText, partsText, ruleText, topText, rulesText, topsText, tableText, Answer, written, answered}
-use Rattle.listing.proofs.Laying.{Laying, laying-all, decimal-one, decimal-two}
-
--- ---- room
-
-pub ready-as : {i : ℕ} {xs ys : Bytes} → xs ≡ ys → Ready i xs → Ready i ys
-ready-as {i} e r = subst (Ready i) e r
-
-pub ready-front : {i : ℕ} (xs ys : Bytes) → Ready i (xs ++ ys) → Ready i xs
-ready-front xs ys r = record { small = omega (arith, r .small, length-append xs ys) }
-
-pub ready-back : {a b : Bytes} {i j : ℕ} (xs ys : Bytes) → Ready i (xs ++ ys) → Laid a i xs b j → Ready j ys
-ready-back xs ys r l = record { small = omega (arith, r .small, l .to, length-append xs ys) }
-
-pub ready-one : {j b : ℕ} → Ready j (b ∷ []) → j < 65536
-ready-one {j} {b} r = omega (arith, r .small)
+use Rattle.printing.proofs.Decimals.{decimal-one, decimal-two}
+use Rattle.listing.specs.declared.writing.WriteAnswer.the-variants.{Whole, BadTable, NoRoom}
+use Rattle.listing.specs.Laid.{Laid, Ready}
+use Rattle.listing.specs.Writing.{partText, partsText, ruleText, topText, rulesText, topsText}
+use Rattle.listing.specs.Calls.{told, writeCall, writeSays}
+use Rattle.listing.proofs.Laying.{Laying, laying-all, ready-as}
 
 -- ---- parts
 
@@ -73,16 +63,17 @@ unfolding parted partsText flatMap
 parted-tabs x [] = sym (append-nil x)
 parted-tabs x (p ∷ ps) = ap (λ (l : Bytes). x ++ (9 ∷ l)) (parted-tabs (partField p) ps)
 
-abbrev pub rest-of : ℕ → List Part → Bytes
-rest-of n ps = decimal n ++ (partsText ps ++ (10 ∷ []))
-
 pub rule-line : (t : List ℕ) (i n : ℕ) (ps : List Part) → n ≡ rulesetAt t i → ps ≡ ruleParts t i
-    → (114 ∷ 117 ∷ 108 ∷ 101 ∷ 9 ∷ []) ++ rest-of n ps ≡ ruleText (ruleAt t i)
+    → ruleWord ++ ((9 ∷ []) ++ (decimal n ++ (partsText ps ++ (10 ∷ [])))) ≡ ruleText (ruleAt t i)
 unfolding ruleAt parted
 rule-line t i n ps e f =
-    ap₂ (λ (m : ℕ) (qs : List Part). (114 ∷ 117 ∷ 108 ∷ 101 ∷ 9 ∷ []) ++ rest-of m qs) e f
-    ∙ ap (λ (l : Bytes). (114 ∷ 117 ∷ 108 ∷ 101 ∷ 9 ∷ []) ++ l) (sym (append-assoc (decimal (rulesetAt t i)) (partsText (ruleParts t i)) (10 ∷ [])))
-    ∙ ap (λ (l : Bytes). (114 ∷ 117 ∷ 108 ∷ 101 ∷ 9 ∷ (l ++ (10 ∷ [])))) (sym (parted-tabs (decimal (rulesetAt t i)) (ruleParts t i)))
+    ap₂ (λ (m : ℕ) (qs : List Part). ruleWord ++ (9 ∷ (decimal m ++ (partsText qs ++ (10 ∷ []))))) e f
+    ∙ ap (λ (l : Bytes). ruleWord ++ (9 ∷ l)) (sym (append-assoc (decimal (rulesetAt t i)) (partsText (ruleParts t i)) (10 ∷ [])))
+    ∙ ap (λ (l : Bytes). ruleWord ++ (9 ∷ (l ++ (10 ∷ [])))) (sym (parted-tabs (decimal (rulesetAt t i)) (ruleParts t i)))
+
+pub top-line : (top : Bool) → rulesetWord ++ ((9 ∷ []) ++ (topField top ++ (10 ∷ []))) ≡ topText top
+unfolding parted
+top-line top = refl
 
 -- what an accepted table's rule has
 part-more : (s : ℕ) (p : Part) → s ≤ 32 → isPartOf s p ≡ true → isPartOf 32 p ≡ true
@@ -101,21 +92,21 @@ module _ (t : List ℕ) (ok : tableFits t ≡ true) where
   a = accepted-all t ok
 
   sizes : Sizes (rulesetsIn t) (recordsIn t) (partsIn t)
-  sizes = range-sizes _ _ _ (a .sizes)
+  sizes = sizes-bound _ _ _ (a .sizes)
 
   pub few-rules : recordsIn t ≤ 512
-  few-rules = sizes .few-rules
+  few-rules = sizes .rules
 
   pub flags-within : (s : ℕ) → s < rulesetsIn t → 3 + s < length t
   flags-within s h = omega (arith, a .long)
 
   pub set-low : (i n : ℕ) → i < recordsIn t → n ≡ rulesetAt t i → n < 100
-  set-low i n h e = omega (arith, e, sizes .few-sets, ltb-true (rulesetAt t i) (rulesetsIn t) (and-left (ltb (rulesetAt t i) (rulesetsIn t)) _ (set-test t i (a .sets i h))))
+  set-low i n h e = omega (arith, e, sizes .sets, ltb-true (rulesetAt t i) (rulesetsIn t) (and-left (ltb (rulesetAt t i) (rulesetsIn t)) _ (set-test t i (a .sets i h))))
 
   pub parts-low : (i : ℕ) (r : Parts) → i < recordsIn t → r ≡ ruleSpan t i → every (isPartOf 32) (partsBetween t (r .at) (r .end)) ≡ true
   parts-low i r h e =
       ap (every (isPartOf 32)) (parts-whole t i r e)
-      ∙ parts-more (rulesetsIn t) (ruleParts t i) (sizes .few-sets) (parts-each t i (a .long) (range-test t i (a .ranges i h) .0) (a .words))
+      ∙ parts-more (rulesetsIn t) (ruleParts t i) (sizes .sets) (parts-each t i (a .long) (range-test t i (a .ranges i h) .0) (a .words))
 
 -- ---- lines one after another
 
@@ -156,7 +147,7 @@ pub top-is : (t : List ℕ) (i : ℕ) → eqb (wordAt t (3 + i)) 0 ≡ isTop t i
 unfolding isTop flagAt
 top-is t i = refl
 
-pub table-text : (t : List ℕ) → topsText t 0 (rulesetsIn t) ++ rulesText t 0 (recordsIn t) ≡ tableText t
+pub table-text : (t : List ℕ) → topsText t 0 (rulesetsIn t) ++ rulesText t 0 (recordsIn t) ≡ listing (dataOf t)
 unfolding topsText rulesText listing linesOf dataOf listed
 table-text t = sym (ended-append (map topLine (listed (rulesetsIn t) (isTop t))) (map ruleLine (listed (recordsIn t) (ruleAt t))))
 
@@ -217,7 +208,7 @@ listing-short d h =
       ap length (ended-append (map topLine (d .tops)) (map ruleLine (d .rules))),
       length-append (ended (map topLine (d .tops))) (ended (map ruleLine (d .rules))),
       tops-short (d .tops),
-      rules-short (length (d .tops)) (d .rules) (f .sizes .few-sets) (f .each),
+      rules-short (length (d .tops)) (d .rules) (f .sizes .sets) (f .each),
     )
 
 pub text-ready : (t : List ℕ) → tableFits t ≡ true → Ready 0 (topsText t 0 (rulesetsIn t) ++ rulesText t 0 (recordsIn t))
@@ -225,23 +216,21 @@ text-ready t h = ready-as (sym (table-text t)) (record { small = omega (arith, l
 
 -- ---- the call's answers
 
-pub said-bad : (t : List ℕ) (text : Bytes) → tableFits t ≡ false → answered BadTable text ≡ written t text
-unfolding written
-said-bad t text h = sym (rw (written, h))
+pub said-bad : (t : List ℕ) (room : Bytes) → tableFits t ≡ false → writeSays BadTable room ≡ writeCall t room
+unfolding writeCall
+said-bad t room h = sym (rw (writeCall, h))
 
-pub said-short : (t : List ℕ) (text : Bytes) (n : ℕ) → tableFits t ≡ true → n ≡ length (tableText t) → length text < n → answered NoRoom text ≡ written t text
-unfolding written
-said-short t text n h e l = sym (rw (written, h, lt-leb (length (tableText t)) (length text) (omega arith)))
+pub said-short : (t : List ℕ) (room : Bytes) (n : ℕ) → tableFits t ≡ true → n ≡ length (listing (dataOf t)) → length room < n → writeSays NoRoom room ≡ writeCall t room
+unfolding writeCall
+said-short t room n h e l = sym (rw (writeCall, h, lt-leb (length (listing (dataOf t))) (length room) (omega arith)))
 
-pub said-whole : (t : List ℕ) (text after : Bytes) (n m : ℕ) → tableFits t ≡ true → n ≡ length (tableText t) → n ≤ length text → Laid text 0 (tableText t) after m → answered (Whole m) after ≡ written t text
-unfolding written
-said-whole t text after n m h e l k =
-    let to : m ≡ length (tableText t) = omega (arith, k .to) in
-    let past : 0 + length (tableText t) ≡ length (tableText t) = omega arith in
-    let laid : after ≡ tableText t ++ drop (length (tableText t)) text =
-    k .text ∙ sets-eq (tableText t) text 0 (omega arith) ∙ ap (λ (j : ℕ). tableText t ++ drop j text) past in
-    ap₂ (λ (w : ℕ) (x : Bytes). whole w x) to laid
-    ∙ sym (rw (written, h, le-leb (length (tableText t)) (length text) (omega arith)))
-  where
-    whole : ℕ → Bytes → Answer
-    whole w x = record { number = 0; words = w; text = x }
+pub said-whole : (t : List ℕ) (room after : Bytes) (n m : ℕ) → tableFits t ≡ true → n ≡ length (listing (dataOf t)) → n ≤ length room → Laid room 0 (listing (dataOf t)) after m → writeSays (Whole m) after ≡ writeCall t room
+unfolding writeCall
+said-whole t room after n m h e l k =
+    let to : m ≡ length (listing (dataOf t)) = omega (arith, k .to) in
+    ap₂ told to (k .left ∙ sets-start room (listing (dataOf t)) (omega arith))
+    ∙ sym (rw (writeCall, h, le-leb (length (listing (dataOf t))) (length room) (omega arith)))
+
+-- a length as it is returned
+pub few-bytes : (t : List ℕ) (room after : Bytes) (m : ℕ) → tableFits t ≡ true → Laid room 0 (listing (dataOf t)) after m → m < 4294967296
+few-bytes t room after m h k = omega (arith, k .to, listing-short (dataOf t) (table-fits t h))

@@ -73,7 +73,7 @@ abbrev pub LineSays : Option Data → Line → Type 0
 LineSays o (Fits z) = (e : Data) × (o ≡ some e) × Counted e (z .sets) (z .rules) (z .parts) (z .last)
 LineSays o Bad = o ≡ none
 
--- what the answer on a whole text says of its reading
+-- what the answer on a whole text says of its reading; no listing has more than 544 lines
 abbrev pub Judges : Read → Judged → Type 0
 Judges x (Good z) = (e : Data) × (x ≡ good e) × Counted e (z .sets) (z .rules) (z .parts) (z .last)
-Judges x (BadAt k) = x ≡ bad k
+Judges x (BadAt k) = (x ≡ bad k) × (k ≤ 544)

@@ -1,2 +1,4 @@
-pub mod Judging
+pub mod Laid
 pub mod Writing
+pub mod Judging
+pub mod Calls

@@ -1,4 +1,9 @@
-// The fields of a listing's lines, as they are read.
+// A listing read into table words. One pass judges the text, line by line, and one writes: the words are the packed words of
+// the data whose listing the text is. It refuses a text that is no listing of data within document 01's limits (15, with its
+// first bad line), and words that have no room (16).
+use crate::words;
+use acceptance;
+use defs::ruledef;
 ghost use mathlib.Core.Path.{_≡_};
 ghost use Prim.Native.Nat.{_≤_, _<_};
 ghost use lib.ListN.{length};
@@ -7,32 +12,21 @@ ghost use Rattle.packing.specs.Data.{Data};
 ghost use Rattle.printing.specs.Reading.{same, pieces, numberOf, partIn, topIn, ruleIn, addTop, addRule, readLine, read};
 ghost use Rattle.listing.specs.Judging.{Found, lowNumber, digitOf, exactWord, wordIn, fieldsAt, countFrom, Counted, Countable, LineSays, Judges};
 
-// Byte 9 parts the fields, byte 10 ends the line.
-const TAB: u8 = 9;
-
-const END: u8 = 10;
-
-const MOST_RULESETS: usize = 32;
-
-const MOST_RULES: usize = 512;
-
-const MOST_PARTS: usize = 8192;
-
-const MOST_PARTS_A_RULE: usize = 64;
-
-const MOST_PARAMETERS: usize = 8;
-
-const WHITESPACE: usize = 256;
-
-const EXPRESSION: usize = 257;
-
-const NESTED: usize = 512;
-
 // More than any number that a listing within the limits has.
 const NO_NUMBER: usize = 100;
 
 // No part's word.
 const NO_PART: usize = 0;
+
+// What reading answers. `readSays` gives each case's number and fields.
+pub enum ReadAnswer {
+    // 0: how many words were written at the room's start.
+    Whole { words: u32 },
+    // 15: the first bad line, counted from 0.
+    BadText { line: u32 },
+    // 16: the words are more than their room.
+    NoRoom,
+}
 
 // What the lines so far have: S, R, P, and the last rule's ruleset.
 struct Sizes {
@@ -92,13 +86,13 @@ fn is_word(text: &[u8], at: usize, end: usize, word: &[u8]) -> bool
 fn digit(byte: u8) -> usize
     ensures answers { λ r. ⌜ r ≡ digitOf byte ⌝ }
 {
-    if byte < 48 {
+    if byte < b'0' {
         return NO_NUMBER;
     }
-    if byte > 57 {
+    if byte > b'9' {
         return NO_NUMBER;
     }
-    (byte - 48) as usize
+    (byte - b'0') as usize
 }
 
 // The number below 100 whose decimal this is, without leading zeros; 100 if there is none.
@@ -127,20 +121,15 @@ fn number(text: &[u8], at: usize, end: usize) -> usize
     10 * tens + ones
 }
 
-// The word of an exact part.
+// The word of an exact part; 0 if the byte is none.
 fn exact(byte: u8) -> usize
     ensures answers { λ r. ⌜ r ≡ exactWord byte ⌝ }
 {
-    if byte < 33 {
-        return NO_PART;
+    let word = byte as usize;
+    if acceptance::is_part(word, 0) {
+        return word;
     }
-    if byte > 126 {
-        return NO_PART;
-    }
-    if byte == 59 {
-        return NO_PART;
-    }
-    byte as usize
+    NO_PART
 }
 
 // The word of the part that a field says, among so many rulesets; 0 if it says none.
@@ -153,21 +142,21 @@ fn part_word(text: &[u8], at: usize, end: usize, sets: usize) -> usize
     if end - at == 1 {
         return exact(text[at]);
     }
-    if is_word(text, at, end, b"ws") {
-        return WHITESPACE;
+    if is_word(text, at, end, &words::WS) {
+        return ruledef::WHITESPACE;
     }
-    if is_word(text, at, end, b"expr") {
-        return EXPRESSION;
+    if is_word(text, at, end, &words::EXPR) {
+        return ruledef::EXPRESSION;
     }
     if end - at < 3 {
         return NO_PART;
     }
-    if !is_word(text, at, at + 3, b"sub") {
+    if !is_word(text, at, at + 3, &words::SUB) {
         return NO_PART;
     }
     let set = number(text, at + 3, end);
     if set < sets {
-        return NESTED + set;
+        return ruledef::NESTED + set;
     }
     NO_PART
 }
@@ -185,21 +174,21 @@ fn judge_parts(text: &[u8], at: usize, end: usize, sets: usize) -> usize
     let mut parameters = 0;
     while tab < end {
         let from = tab + 1;
-        tab = find(text, from, end, TAB);
+        tab = find(text, from, end, words::TAB);
         let word = part_word(text, from, tab, sets);
         if word == NO_PART {
-            return MOST_PARTS_A_RULE + 1;
+            return ruledef::MOST_PARTS_A_RULE + 1;
         }
         count = count + 1;
-        if count > MOST_PARTS_A_RULE {
-            return MOST_PARTS_A_RULE + 1;
+        if count > ruledef::MOST_PARTS_A_RULE {
+            return ruledef::MOST_PARTS_A_RULE + 1;
         }
-        if word > WHITESPACE {
+        if word > ruledef::WHITESPACE {
             parameters = parameters + 1;
         }
     }
-    if parameters > MOST_PARAMETERS {
-        return MOST_PARTS_A_RULE + 1;
+    if parameters > ruledef::MOST_PARAMETERS {
+        return ruledef::MOST_PARTS_A_RULE + 1;
     }
     count
 }
@@ -215,7 +204,7 @@ fn judge_top(text: &[u8], at: usize, end: usize, sums: Sizes) -> Line
     if sums.rules > 0 {
         return Line::Bad;
     }
-    if sums.sets == MOST_RULESETS {
+    if sums.sets == ruledef::MOST_RULESETS {
         return Line::Bad;
     }
     let next = Sizes {
@@ -224,10 +213,10 @@ fn judge_top(text: &[u8], at: usize, end: usize, sums: Sizes) -> Line
         parts: 0,
         last: 0,
     };
-    if is_word(text, at, end, b"top") {
+    if is_word(text, at, end, &words::TOP) {
         return Line::Fits(next);
     }
-    if is_word(text, at, end, b"nested") {
+    if is_word(text, at, end, &words::NESTED) {
         return Line::Fits(next);
     }
     Line::Bad
@@ -241,7 +230,7 @@ fn judge_rule(text: &[u8], at: usize, end: usize, sums: Sizes) -> Line
     ensures says { λ r.
         ⌜ ((d : Data) → Counted d (sums .sets) (sums .rules) (sums .parts) (sums .last) → LineSays (addRule d (ruleIn (pieces 9 (slice at end (now (text .entry)))))) r) ⌝ }
 {
-    let tab = find(text, at, end, TAB);
+    let tab = find(text, at, end, words::TAB);
     let set = number(text, at, tab);
     if set >= sums.sets {
         return Line::Bad;
@@ -249,14 +238,14 @@ fn judge_rule(text: &[u8], at: usize, end: usize, sums: Sizes) -> Line
     if set < sums.last {
         return Line::Bad;
     }
-    if sums.rules == MOST_RULES {
+    if sums.rules == ruledef::MOST_RULES {
         return Line::Bad;
     }
     let count = judge_parts(text, tab, end, sums.sets);
-    if count > MOST_PARTS_A_RULE {
+    if count > ruledef::MOST_PARTS_A_RULE {
         return Line::Bad;
     }
-    if sums.parts + count > MOST_PARTS {
+    if sums.parts + count > ruledef::MOST_PARTS {
         return Line::Bad;
     }
     Line::Fits(Sizes {
@@ -275,20 +264,20 @@ fn judge_line(text: &[u8], at: usize, end: usize, sums: Sizes) -> Line
     ensures says { λ r.
         ⌜ ((d : Data) → Counted d (sums .sets) (sums .rules) (sums .parts) (sums .last) → LineSays (readLine d (slice at end (now (text .entry)))) r) ⌝ }
 {
-    let tab = find(text, at, end, TAB);
+    let tab = find(text, at, end, words::TAB);
     if tab == end {
         return Line::Bad;
     }
-    if is_word(text, at, tab, b"ruleset") {
+    if is_word(text, at, tab, &words::RULESET) {
         return judge_top(text, tab + 1, end, sums);
     }
-    if is_word(text, at, tab, b"rule") {
+    if is_word(text, at, tab, &words::RULE) {
         return judge_rule(text, tab + 1, end, sums);
     }
     Line::Bad
 }
 
-// The whole text.
+// The whole text. Each line so far is a ruleset or a rule, so their number is the number of the next line.
 fn judge(text: &[u8]) -> Judged
     ensures says { λ r. ⌜ Judges (read (now (text .entry))) r ⌝ }
 {
@@ -298,23 +287,21 @@ fn judge(text: &[u8]) -> Judged
         parts: 0,
         last: 0,
     };
-    let mut line = 0;
     let mut at = 0;
     while at < text.len() {
-        let end = find(text, at, text.len(), END);
+        let end = find(text, at, text.len(), words::END);
         if end == text.len() {
-            return Judged::BadAt(line);
+            return Judged::BadAt(sums.sets + sums.rules);
         }
         let judged = judge_line(text, at, end, sums);
         let Line::Fits(next) = judged else {
-            return Judged::BadAt(line);
+            return Judged::BadAt(sums.sets + sums.rules);
         };
         sums = next;
         at = end + 1;
-        line = line + 1;
     }
     if sums.sets == 0 {
-        return Judged::BadAt(line);
+        return Judged::BadAt(sums.sets + sums.rules);
     }
     Judged::Good(sums)
 }

@@ -1,5 +1,6 @@
-// A table's text. One function lays it into lent bytes as far as they reach, and says how long it is: with no bytes it
-// measures. It refuses a bad table (2) and a text longer than its room (16).
+// A table's listing. One function lays it into lent bytes as far as they reach, and says how long it is, so laying it into a
+// byte measures it. It refuses words that are no table (2) and a listing that has no room (16).
+use crate::words;
 use acceptance;
 use defs::ruledef;
 use defs::ruledef::Part;
@@ -11,30 +12,28 @@ ghost use lib.ListN.{length};
 ghost use Rattle.plain.specs.Lists.{every};
 ghost use Rattle.defs.specs.Table.{rulesetsIn, recordsIn, partsBetween, tableFits};
 ghost use Rattle.packing.specs.Data.{isPartOf};
-ghost use Rattle.packing.specs.Packed.{ruleAt};
-ghost use Rattle.printing.specs.Listing.{decimal};
-ghost use Rattle.listing.specs.Writing.{Laid, Ready, partText, partsText, ruleText, topText, rulesText, topsText, tableText, answered, written};
+ghost use Rattle.packing.specs.Packed.{ruleAt, dataOf};
+ghost use Rattle.printing.specs.Listing.{decimal, partField, topField, listing};
+ghost use Rattle.listing.specs.Calls.{writeSays, writeCall};
+ghost use Rattle.listing.specs.Laid.{Laid, Ready};
+ghost use Rattle.listing.specs.Writing.{partText, partsText, ruleText, topText, rulesText, topsText};
 
-// Byte 9 parts the fields, byte 10 ends the line; digits are from 48 on.
-const TAB: u8 = 9;
-
-const END: u8 = 10;
-
+// Digits are from 48 on.
 const ZERO: usize = 48;
 
-// S stands first, then R; the flags begin after three words.
-const HEAD: usize = 3;
-
-// The answer. `writtenSays` gives each case's number and words: 0, 2 and 16, in this order.
-pub enum Written {
-    Whole { words: usize },
+// What writing answers. `writeSays` gives each case's number and fields.
+pub enum WriteAnswer {
+    // 0: how many bytes were written at the room's start.
+    Whole { words: u32 },
+    // 2
     BadTable,
+    // 16: the listing is longer than its room.
     NoRoom,
 }
 
 // Lays a byte, if there is room for it, and gives the place after it.
 fn put(text: &mut [u8], at: usize, byte: u8) -> usize
-    requires { ⌜ at < 65536 ⌝ }
+    requires { ⌜ Ready at (byte ∷ []) ⌝ }
     ensures laid { λ r. ⌜ Laid (now (text .entry)) at (byte ∷ []) (now (text .exit)) r ⌝ }
 {
     let next = at + 1;
@@ -70,24 +69,30 @@ fn put_number(text: &mut [u8], at: usize, number: usize) -> usize
     put(text, to, (ZERO + number % 10) as u8)
 }
 
+fn put_field(text: &mut [u8], at: usize, part: Part) -> usize
+    requires { ⌜ isPartOf 32 part ≡ true ⌝ }
+    requires { ⌜ Ready at (partField part) ⌝ }
+    ensures laid { λ r. ⌜ Laid (now (text .entry)) at (partField part) (now (text .exit)) r ⌝ }
+{
+    match part {
+        Part::Exact(byte) => put(text, at, byte),
+        Part::Whitespace => put_word(text, at, &words::WS),
+        Part::Expression => put_word(text, at, &words::EXPR),
+        Part::Nested(set) => {
+            let number = put_word(text, at, &words::SUB);
+            put_number(text, number, set)
+        }
+    }
+}
+
 // A part's field, and the tab before it.
 fn put_part(text: &mut [u8], at: usize, part: Part) -> usize
     requires { ⌜ isPartOf 32 part ≡ true ⌝ }
     requires { ⌜ Ready at (partText part) ⌝ }
     ensures laid { λ r. ⌜ Laid (now (text .entry)) at (partText part) (now (text .exit)) r ⌝ }
 {
-    match part {
-        Part::Exact(byte) => {
-            let to = put(text, at, TAB);
-            put(text, to, byte)
-        }
-        Part::Whitespace => put_word(text, at, b"\tws"),
-        Part::Expression => put_word(text, at, b"\texpr"),
-        Part::Nested(set) => {
-            let to = put_word(text, at, b"\tsub");
-            put_number(text, to, set)
-        }
-    }
+    let field = put(text, at, words::TAB);
+    put_field(text, field, part)
 }
 
 // The fields of the parts whose words stand from one place to before another.
@@ -114,11 +119,12 @@ fn put_rule(table: &[u16], rule: u16, text: &mut [u8], at: usize) -> usize
     requires { ⌜ Ready at (ruleText (ruleAt (now table) rule)) ⌝ }
     ensures laid { λ r. ⌜ Laid (now (text .entry)) at (ruleText (ruleAt (now (table .entry)) rule)) (now (text .exit)) r ⌝ }
 {
-    let number = put_word(text, at, b"rule\t");
+    let tab = put_word(text, at, &words::RULE);
+    let number = put(text, tab, words::TAB);
     let fields = put_number(text, number, ruledef::ruleset_of(table, rule));
     let parts = ruledef::parts_of(table, rule);
     let end = put_parts(table, parts.at, parts.end, text, fields);
-    put(text, end, END)
+    put(text, end, words::END)
 }
 
 fn put_rules(table: &[u16], text: &mut [u8], at: usize) -> usize
@@ -137,15 +143,26 @@ fn put_rules(table: &[u16], text: &mut [u8], at: usize) -> usize
     to
 }
 
+// Whether a ruleset is a top one.
+fn put_kind(text: &mut [u8], at: usize, top: bool) -> usize
+    requires { ⌜ Ready at (topField top) ⌝ }
+    ensures laid { λ r. ⌜ Laid (now (text .entry)) at (topField top) (now (text .exit)) r ⌝ }
+{
+    if top {
+        return put_word(text, at, &words::TOP);
+    }
+    put_word(text, at, &words::NESTED)
+}
+
 // A ruleset's line.
 fn put_top(text: &mut [u8], at: usize, top: bool) -> usize
     requires { ⌜ Ready at (topText top) ⌝ }
     ensures laid { λ r. ⌜ Laid (now (text .entry)) at (topText top) (now (text .exit)) r ⌝ }
 {
-    if top {
-        return put_word(text, at, b"ruleset\ttop\n");
-    }
-    put_word(text, at, b"ruleset\tnested\n")
+    let tab = put_word(text, at, &words::RULESET);
+    let field = put(text, tab, words::TAB);
+    let end = put_kind(text, field, top);
+    put(text, end, words::END)
 }
 
 fn put_tops(table: &[u16], text: &mut [u8]) -> usize
@@ -158,40 +175,42 @@ fn put_tops(table: &[u16], text: &mut [u8]) -> usize
     let mut to = 0;
     let mut set = 0;
     while set < sets {
-        to = put_top(text, to, table[HEAD + set] == 0);
+        to = put_top(text, to, table[ruledef::HEAD + set] == 0);
         set = set + 1;
     }
     to
 }
 
-// Lays an accepted table's text as far as there is room, and says how long it is.
+// Lays an accepted table's listing as far as there is room, and says how long it is.
 fn lay(table: &[u16], text: &mut [u8]) -> usize
     requires { ⌜ tableFits (now table) ≡ true ⌝ }
-    ensures laid { λ r. ⌜ Laid (now (text .entry)) 0 (tableText (now (table .entry))) (now (text .exit)) r ⌝ }
+    ensures laid { λ r. ⌜ Laid (now (text .entry)) 0 (listing (dataOf (now (table .entry)))) (now (text .exit)) r ⌝ }
 {
     let to = put_tops(table, text);
     put_rules(table, text, to)
 }
 
-// How long an accepted table's text is.
+// How long an accepted table's listing is.
 fn measure(table: &[u16]) -> usize
     requires { ⌜ tableFits (now table) ≡ true ⌝ }
-    ensures { λ r. ⌜ r ≡ length (tableText (now (table .entry))) ⌝ }
+    ensures { λ r. ⌜ r ≡ length (listing (dataOf (now (table .entry)))) ⌝ }
 {
-    let mut none = [0u8; 1];
-    lay(table, &mut none)
+    let mut byte = [0u8; 1];
+    lay(table, &mut byte)
 }
 
 // The table's rulesets and rules as text, at the room's start.
-pub fn write_table(table: &[u16], text: &mut [u8]) -> Written
-    ensures answers { λ r. ⌜ answered r (now (text .exit)) ≡ written (now (table .entry)) (now (text .entry)) ⌝ }
+pub fn write_table(table: &[u16], text: &mut [u8]) -> WriteAnswer
+    ensures answers { λ r. ⌜ writeSays r (now (text .exit)) ≡ writeCall (now (table .entry)) (now (text .entry)) ⌝ }
 {
     if !acceptance::check_table(table) {
-        return Written::BadTable;
+        return WriteAnswer::BadTable;
     }
     if text.len() < measure(table) {
-        return Written::NoRoom;
+        return WriteAnswer::NoRoom;
     }
     let words = lay(table, text);
-    Written::Whole { words }
+    WriteAnswer::Whole {
+        words: words as u32,
+    }
 }

@@ -9,6 +9,7 @@ use lib.ListN.{length, drop}
 use borrow.Author.Tests.{eq-eqb}
 use Rattle.plain.specs.Choice.{select}
 use Rattle.plain.specs.Lists.{keepIf}
+use Rattle.plain.specs.Told.{Told}
 use Rattle.plain.proofs.Members.{kept-has}
 use Rattle.ruledef_map.specs.RuledefMap.{linePrefix}
 use Rattle.defs.specs.Ruledef.{startsOf}
@@ -18,7 +19,7 @@ use Rattle.readings.specs.Plan.{Outcome, done, stop, run}
 use Rattle.readings.specs.Walk.{Match, tries}
 use Rattle.readings.specs.Records.{pairOf}
 use Rattle.readings.specs.Answer.{exactCount, greatest, greatestCount, best, treeWords, wordsOf, answerWords}
-use Rattle.readings.specs.Call.{Told, Accepted, tree, stoppedAfter, matched, written, callWith, scanCall, lookupCall}
+use Rattle.readings.specs.Call.{Accepted, tree, stoppedAfter, matched, written, callWith, scanCall, lookupCall}
 use Rattle.readings.specs.Demand.{Within, Demand3}
 use Rattle.readings.proofs.Packed.{lawful}
 use Rattle.readings.proofs.Runs.{run-done, stop-left}

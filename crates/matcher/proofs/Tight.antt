@@ -8,8 +8,8 @@ use Prim.Native.Nat.{ℕ}
 use lib.Dec.{eqb}
 use denote.Ref.{now}
 use Rattle.plain.specs.Choice.{select}
+use Rattle.plain.specs.Told.{Told}
 use Rattle.plain.proofs.Answers.{one-answer}
-use Rattle.readings.specs.Call.{Told}
 use Rattle.matcher.specs.declared.Answer.{Answer}
 use Rattle.matcher.specs.declared.Answer.the-variants.{Matched, NoMatch, BadTable, BadLine, BadSheet, BadBudget, Spent, TooDeep, PoolFull, TooLong}
 use Rattle.matcher.specs.Told.{says}

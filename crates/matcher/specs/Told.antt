@@ -3,6 +3,7 @@ use mathlib.Core.Path.{_≡_}
 use mathlib.Core.List.{List, []}
 use Prim.Native.Nat.{ℕ, _≤_, _<_}
 use lib.ListN.{length, getD}
+use Rattle.plain.specs.Told.{Told}
 use Rattle.defs.specs.Table.{recordsIn}
 use Rattle.defs.specs.Ruledef.{startsOf}
 use Rattle.ruledef_map.specs.RuledefMap.{linePrefix, topRules, foundRules}
@@ -11,7 +12,7 @@ use Rattle.readings.specs.Answer.{answerWords}
 use Rattle.readings.specs.Plan.{Outcome, done, stop, room}
 use Rattle.readings.specs.Walk.{Match, topPairs}
 use Rattle.readings.specs.Lookup.{foundPairs}
-use Rattle.readings.specs.Call.{Told, Accepted, callWith}
+use Rattle.readings.specs.Call.{Accepted, callWith}
 use Rattle.pool.specs.declared.Pool.{Pool}
 use Rattle.pool.specs.Log.{logOf}
 use Rattle.pool.specs.Meaning.{Stored}

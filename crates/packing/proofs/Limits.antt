@@ -1,42 +1,23 @@
 -- Data within the limits: its sentences, and that fewer rules, or the first rulesets alone, are within them too.
 use mathlib.Core.Path.{_≡_, refl}
-use mathlib.Core.Bool.{Bool, true, _&&_}
+use mathlib.Core.Bool.{Bool, true}
 use mathlib.Core.List.{List, [], _∷_, _++_}
-use Prim.Native.Nat.{ℕ, _+_, _≤_, _<_}
+use Prim.Native.Nat.{ℕ, _+_, _<_}
 use native.Mathlib.Omega.{arith}
 use lib.Dec.{leb}
 use lib.ListN.{length, length-append}
-use borrow.Author.Tests.{leb-true, le-leb}
+use borrow.Author.Tests.{le-leb}
 use Rattle.plain.specs.Lists.{every}
 use Rattle.plain.proofs.Tests.{and-left, and-right, and-both}
 use Rattle.plain.proofs.Every.{every-first}
 use Rattle.defs.specs.Table.{inRange}
+use Rattle.defs.proofs.Fits.{Sizes, sizes-bound}
 use Rattle.packing.specs.Data.{Rule, ruleFits, ascend, partsOf, dataFits, dataFrom}
 
--- S (1 to 32), R (0 to 512), P (0 to 8,192)
-pub record Sizes (s r p : ℕ) : Type 0 where
-  pub some-sets : 1 ≤ s
-  pub few-sets : s ≤ 32
-  pub few-rules : r ≤ 512
-  pub few-parts : p ≤ 8192
-
-module _ (s r p : ℕ) where
-  pub range-sizes : inRange s r p ≡ true → Sizes s r p
-  unfolding inRange
-  range-sizes h =
-      let three = and-left (leb 1 s && leb s 32 && leb r 512) (leb p 8192) h in
-      let two = and-left (leb 1 s && leb s 32) (leb r 512) three in
-      record {
-        some-sets = leb-true 1 s (and-left (leb 1 s) _ two);
-        few-sets = leb-true s 32 (and-right (leb 1 s) _ two);
-        few-rules = leb-true r 512 (and-right (leb 1 s && leb s 32) _ three);
-        few-parts = leb-true p 8192 (and-right (leb 1 s && leb s 32 && leb r 512) _ h);
-      }
-
-  pub sizes-range : Sizes s r p → inRange s r p ≡ true
-  unfolding inRange
-  sizes-range z =
-      and-both _ _ (and-both _ _ (and-both _ _ (le-leb 1 s (z .some-sets)) (le-leb s 32 (z .few-sets))) (le-leb r 512 (z .few-rules))) (le-leb p 8192 (z .few-parts))
+pub sizes-range : (s r p : ℕ) → Sizes s r p → inRange s r p ≡ true
+unfolding inRange
+sizes-range s r p z =
+    and-both _ _ (and-both _ _ (and-both _ _ (le-leb 1 s (z .some)) (le-leb s 32 (z .sets))) (le-leb r 512 (z .rules))) (le-leb p 8192 (z .parts))
 
 -- the limits, sentence by sentence
 pub record Fits (ts : List Bool) (rs : List Rule) : Type 0 where
@@ -50,7 +31,7 @@ module _ (ts : List Bool) (rs : List Rule) where
   fits-all h =
       let tests = and-right (inRange (length ts) (length rs) (partsOf rs)) _ h in
       record {
-        sizes = range-sizes _ _ _ (and-left (inRange (length ts) (length rs) (partsOf rs)) _ h);
+        sizes = sizes-bound _ _ _ (and-left (inRange (length ts) (length rs) (partsOf rs)) _ h);
         order = and-left (ascend 0 rs) _ tests;
         each = and-right (ascend 0 rs) _ tests;
       }

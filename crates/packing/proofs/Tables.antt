@@ -19,9 +19,10 @@ use Rattle.plain.proofs.Tests.{and-left, and-right, and-both, or-cases}
 use Rattle.defs.specs.Table.{wordAt, rulesetsIn, recordsIn, partsIn, partsFrom, rulesetAt, firstAt, countAt, partWordAt, partOf, ruleFrom, ruleWords, ruleParts, inRange, sizesFit, lengthFits, flagsFit, rulesetBefore, rulesetFits, rulesetsFit, rangeFits, rangesFit, countsFit, parametersIn, parametersFit, isPart, partsFit, tableFits}
 use Rattle.defs.specs.Ruledef.{isTop}
 use Rattle.defs.specs.declared.ruledef.Part.the-variants.{Exact, Whitespace, Expression, Nested}
+use Rattle.defs.proofs.Fits.{sizes-bound}
 use Rattle.packing.specs.Data.{Rule, isPartOf, ruleFits, ascend, lastOf, partsOf, dataFits}
 use Rattle.packing.specs.Packed.{ruleAt, dataOf}
-use Rattle.packing.proofs.Limits.{range-sizes, all-fits, partsOf-append}
+use Rattle.packing.proofs.Limits.{all-fits, partsOf-append}
 
 -- ---- lists by their entries, from the front
 
@@ -189,7 +190,7 @@ unfolding dataOf
 table-fits t h =
     all-fits (dataOf t .tops) (dataOf t .rules)
     (record {
-      sizes = omega (arith, range-sizes _ _ _ (a .sizes), sets, listed-length (recordsIn t) (ruleAt t), parts, a .counts);
+      sizes = omega (arith, sizes-bound _ _ _ (a .sizes), sets, listed-length (recordsIn t) (ruleAt t), parts, a .counts);
       order = ascend-listed t (recordsIn t) ∙ every-all (recordsIn t) (λ i. leb (rulesetBefore t i) (rulesetAt t i)) (λ i l. and-right (ltb (rulesetAt t i) (rulesetsIn t)) _ (set-fits i l));
       each =
           ap (λ (s : ℕ). every (ruleFits s) (dataOf t .rules)) sets ∙ every-listed (ruleFits (rulesetsIn t)) (recordsIn t) (ruleAt t)

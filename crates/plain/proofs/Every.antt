@@ -54,4 +54,3 @@ every-listed f (suc n) g =
     last : (b : Bool) → (b && true) ≡ b
     last true = refl
     last false = refl
-

@@ -2,3 +2,4 @@ pub mod Choice
 pub mod Below
 pub mod Lists
 pub mod Buffers
+pub mod Told

@@ -89,10 +89,15 @@ read-tops rs (u ∷ us) ts k ls h f =
     ∙ ap₂ (λ (m : ℕ) (l : List Bool). readFrom m (dataFrom l []) ls) n joined
 
 -- the lines of data within the limits are read to that data
+-- a listing has a line for each ruleset and each rule
+pub lines-many : (d : Data) → length (linesOf d) ≡ length (d .tops) + length (d .rules)
+unfolding linesOf
+lines-many d = omega (arith, length-append (map topLine (d .tops)) (map ruleLine (d .rules)), length-map (d .tops) topLine, length-map (d .rules) ruleLine)
+
 pub read-lines : (d : Data) (ls : List Bytes) → 0 < length ls → dataFits d ≡ true → readFrom 0 nothing (linesOf d ++ ls) ≡ readFrom (length (linesOf d)) d ls
 unfolding linesOf
 read-lines d ls h f =
-    let n : length (d .tops) + length (d .rules) ≡ length (linesOf d) = omega (arith, length-append (map topLine (d .tops)) (map ruleLine (d .rules)), length-map (d .tops) topLine, length-map (d .rules) ruleLine) in
+    let n : length (d .tops) + length (d .rules) ≡ length (linesOf d) = sym (lines-many d) in
     ap (readFrom 0 nothing) (append-assoc (map topLine (d .tops)) (map ruleLine (d .rules)) ls)
     ∙ read-tops (d .rules) (d .tops) [] 0 (map ruleLine (d .rules) ++ ls) (some-more (map ruleLine (d .rules)) ls h) f
     ∙ read-rules (d .tops) (d .rules) [] (0 + length (d .tops)) ls h f

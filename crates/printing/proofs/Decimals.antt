@@ -6,7 +6,7 @@ use mathlib.Core.Option.{none, some}
 use Prim.Native.Nat.{ℕ, zero, suc, _+_, _*_, _-_, _/_, _%_, _≤_, _<_}
 use native.Mathlib.Omega.{arith}
 use lib.Dec.{ltb}
-use borrow.Author.Tests.{ltb-false, ne-eqb}
+use borrow.Author.Tests.{ltb-false, ne-eqb, lt-ltb, le-ltb}
 use Rattle.plain.specs.Choice.{select}
 use Rattle.plain.specs.Lists.{every}
 use Rattle.printing.specs.Listing.{Bytes, digits, decimal}
@@ -66,3 +66,20 @@ digits-lack c (suc k) n h = go (ltb n 10) (digits-lack c k (n / 10) h)
 pub decimal-lacks : (c n : ℕ) → c < 48 → lacks c (decimal n) ≡ true
 unfolding decimal
 decimal-lacks c n h = digits-lack c (suc n) n h
+
+-- ---- decimals of one and two digits
+
+small : (k n : ℕ) → 0 < k → n < 10 → digits k n ≡ (48 + n) ∷ []
+unfolding digits
+small zero n h l = absurd (omega arith)
+small (suc k) n h l = ap (λ (t : Bool). select t ((48 + n) ∷ []) (digits k (n / 10) ++ ((48 + n % 10) ∷ []))) (lt-ltb n 10 l)
+
+pub decimal-one : (n : ℕ) → n < 10 → decimal n ≡ (48 + n) ∷ []
+unfolding decimal
+decimal-one n h = small (suc n) n (omega arith) h
+
+pub decimal-two : (n : ℕ) → 10 ≤ n → n < 100 → decimal n ≡ (48 + n / 10) ∷ (48 + n % 10) ∷ []
+unfolding decimal digits
+decimal-two n h l =
+    ap (λ (t : Bool). select t ((48 + n) ∷ []) (digits n (n / 10) ++ ((48 + n % 10) ∷ []))) (le-ltb n 10 h)
+    ∙ ap (λ (x : Bytes). x ++ ((48 + n % 10) ∷ [])) (small n (n / 10) (omega arith) (omega arith))

@@ -7,11 +7,11 @@ use Prim.Native.Nat.{ℕ, _≤_}
 use native.Mathlib.Decide.{decLe}
 use native.Mathlib.Omega.{arith}
 use lib.ListN.{length, length-append}
+use Rattle.plain.specs.Told.{Told}
 use Rattle.readings.specs.Tree.{Tree}
 use Rattle.readings.specs.Scene.{Scene}
 use Rattle.readings.specs.Reading.{Reading}
 use Rattle.readings.specs.Answer.{treeWords, allWords, wordsOf}
-use Rattle.readings.specs.Call.{Told}
 use Rattle.readings.specs.Demand.{Best, needed, Tells, Demand3, no-match, listed}
 use Rattle.readings.proofs.Runs.{total, total-fewer}
 

@@ -13,6 +13,7 @@ use lib.ListN.{length, length-append, length-map}
 use borrow.Author.Tests.{eqb-true}
 use Rattle.plain.specs.Choice.{select}
 use Rattle.plain.specs.Lists.{range, keepIf}
+use Rattle.plain.specs.Told.{Told}
 use Rattle.plain.proofs.Tests.{and-left, and-right}
 use Rattle.plain.proofs.Below.{count-most}
 use Rattle.plain.proofs.Lists.{kept-length}
@@ -31,7 +32,7 @@ use Rattle.readings.specs.Reading.{Span, From, finish, exact, whitespace
 use Rattle.readings.specs.Plan.{done, run, records, room}
 use Rattle.readings.specs.Walk.{Match, topPairs, tries, scan, depths}
 use Rattle.readings.specs.Answer.{exactCount, greatestCount, greatest, best, argCount, treeWords, argWords, allWords, wordsOf, answerWords}
-use Rattle.readings.specs.Call.{Accepted, Told, tree, callWith}
+use Rattle.readings.specs.Call.{Accepted, tree, callWith}
 use Rattle.readings.specs.Measure.{treeRecords, argRecords, treeDepth, solidsBefore, solids}
 use Rattle.readings.proofs.Runs.{run-done, run-room}
 use Rattle.readings.proofs.Packed.{lawful}

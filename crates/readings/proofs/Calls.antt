@@ -9,6 +9,7 @@ use native.Mathlib.Omega.{arith}
 use lib.ListN.{length}
 use borrow.Author.Tests.{le-leb, lt-leb}
 use Rattle.plain.specs.Buffers.{atStart}
+use Rattle.plain.specs.Told.{Told, refusedAt}
 use Rattle.line.specs.Line.{faultAt}
 use Rattle.defs.specs.Table.{tableFits}
 use Rattle.extents.specs.Sheet.{sheetFits}
@@ -18,7 +19,7 @@ use Rattle.readings.specs.Reading.{Readings}
 use Rattle.readings.specs.Plan.{done, stop, run}
 use Rattle.readings.specs.Walk.{Match, tries}
 use Rattle.readings.specs.Answer.{greatestCount, best, answerWords}
-use Rattle.readings.specs.Call.{Accepted, Told, refusedAt, stoppedAfter, written, matched, tree, ended, budgetFits, callWith}
+use Rattle.readings.specs.Call.{Accepted, stoppedAfter, written, matched, tree, ended, budgetFits, callWith}
 use Rattle.readings.proofs.Runs.{run-spent}
 use Rattle.readings.specs.Demand.{Demand3, no-match, listed}
 use Rattle.readings.proofs.Best.{best-readings, best-counts, best-one}

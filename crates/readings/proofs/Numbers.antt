@@ -9,6 +9,7 @@ use native.Mathlib.Decide.{decLe}
 use native.Mathlib.Omega.{arith}
 use lib.Dec.{ltb}
 use lib.ListN.{length}
+use Rattle.plain.specs.Told.{Told}
 use Rattle.plain.proofs.Tests.{tested}
 use Rattle.line.specs.Line.{faultAt}
 use Rattle.defs.specs.Table.{tableFits}
@@ -17,7 +18,7 @@ use Rattle.readings.specs.Scene.{Scene, sceneOf}
 use Rattle.readings.specs.Plan.{Plan, give, visit, keep, deep, Outcome, done, stop, run, room, pooled}
 use Rattle.readings.specs.Walk.{Match, tries}
 use Rattle.readings.specs.Answer.{answerWords}
-use Rattle.readings.specs.Call.{Accepted, Told, tree, budgetFits, callWith}
+use Rattle.readings.specs.Call.{Accepted, tree, budgetFits, callWith}
 use Rattle.readings.proofs.Calls.{bad-table, bad-line, bad-sheet, bad-budget, stopped, walked-through, fits, short}
 
 -- a run that is refused is refused with 6, 7 or 8

@@ -7,6 +7,7 @@ use native.Mathlib.Omega.{arith}
 use lib.ListN.{length, getD}
 use Rattle.plain.specs.Choice.{select}
 use Rattle.plain.specs.Lists.{range, keepIf}
+use Rattle.plain.specs.Told.{Told, refusedAt}
 use Rattle.line.specs.Line.{faultAt}
 use Rattle.syntax.specs.Cut.{CutAt, cut}
 use Rattle.defs.specs.Table.{rulesetsIn, tableFits}
@@ -18,7 +19,7 @@ use Rattle.readings.specs.Scene.{Scene, walkerAt, sceneOf}
 use Rattle.readings.specs.Plan.{run}
 use Rattle.readings.specs.Walk.{topPairs, tries, scan}
 use Rattle.readings.specs.Lookup.{foundPairs, lookup}
-use Rattle.readings.specs.Call.{Accepted, Told, refusedAt, tree, ended, budgetFits, lined, callWith, scanCall, lookupCall}
+use Rattle.readings.specs.Call.{Accepted, tree, ended, budgetFits, lined, callWith, scanCall, lookupCall}
 use Rattle.readings.specs.Demand.{Within, Demand3}
 use Rattle.readings.proofs.Scan.{scan-readings}
 use Rattle.readings.proofs.Packed.{lawful}

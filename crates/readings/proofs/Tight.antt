@@ -6,12 +6,13 @@ use mathlib.Core.List.{List, [], _∷_, List·Memᴰ}
 use Prim.Native.Nat.{ℕ, _≤_}
 use native.Mathlib.Omega.{arith}
 use lib.ListN.{length}
+use Rattle.plain.specs.Told.{Told}
 use Rattle.defs.specs.declared.ruledef.Part.{Part}
 use Rattle.readings.specs.Tree.{Tree, Args}
 use Rattle.readings.specs.Scene.{Scene, Lawful}
 use Rattle.readings.specs.Reading.{Useful, Exactly-at, Cut-for, Span, From, Readings}
 use Rattle.readings.specs.Demand.{BestReadings}
-use Rattle.readings.specs.Call.{Told, callWith}
+use Rattle.readings.specs.Call.{callWith}
 use Rattle.readings.proofs.Leaves.{useful-only, exactly-found, span-found, cut-found}
 use Rattle.readings.proofs.Runs.{total, total-fewer}
 use Rattle.readings.proofs.Walks.{same-end}

@@ -9,6 +9,7 @@ use lib.Dec.{leb}
 use lib.ListN.{length}
 use Rattle.plain.specs.Choice.{select}
 use Rattle.plain.specs.Buffers.{atStart}
+use Rattle.plain.specs.Told.{Told, refusedAt}
 use Rattle.line.specs.Line.{faultAt}
 use Rattle.defs.specs.Table.{tableFits}
 use Rattle.ruledef_map.specs.RuledefMap.{linePrefix}
@@ -20,18 +21,7 @@ use Rattle.readings.specs.Walk.{Match, topPairs, tries}
 use Rattle.readings.specs.Lookup.{foundPairs}
 use Rattle.readings.specs.Answer.{answerWords}
 
--- what a call returns, with the buffer as it leaves it; unstated fields are 0
-pub record Told : Type 0 where
-  pub number : ℕ
-  pub visits : ℕ
-  pub words : ℕ
-  pub place : ℕ
-  pub buffer : List ℕ
-
--- a refusal that returns a place, or visits, or neither; numbers 1 to 9 leave the buffer unchanged
-abbrev pub refusedAt : ℕ → ℕ → List ℕ → Told
-refusedAt n p b = record { number = n; visits = 0; words = 0; place = p; buffer = b }
-
+-- a refusal that returns visits; numbers 1 to 9 leave the buffer unchanged
 abbrev pub stoppedAfter : ℕ → ℕ → List ℕ → Told
 stoppedAfter n v b = record { number = n; visits = v; words = 0; place = 0; buffer = b }
 

@@ -6,13 +6,13 @@ use Prim.Native.Nat.{ℕ, _≤_, _<_}
 use lib.ListN.{length}
 use Rattle.plain.specs.Buffers.{atStart}
 use Rattle.plain.specs.Lists.{Apart}
+use Rattle.plain.specs.Told.{Told}
 use Rattle.readings.specs.Tree.{Tree}
 use Rattle.readings.specs.Scene.{Scene, sceneOf}
 use Rattle.readings.specs.Reading.{Reading}
 use Rattle.readings.specs.Plan.{done, run}
 use Rattle.readings.specs.Walk.{Match, scan}
 use Rattle.readings.specs.Answer.{exactCount, wordsOf}
-use Rattle.readings.specs.Call.{Told}
 
 -- the full scan stays within visits, depth and pool
 pub record Within (t line sheet : List ℕ) (budget : ℕ) : Type 0 where

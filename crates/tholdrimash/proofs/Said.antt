@@ -2,8 +2,8 @@
 use mathlib.Core.Path.{_≡_, sym, ap, subst, _∙_}
 use mathlib.Core.List.{List}
 use Prim.Native.Nat.{ℕ, _≤_}
+use Rattle.plain.specs.Told.{Told}
 use Rattle.readings.specs.Scene.{Scene}
-use Rattle.readings.specs.Call.{Told}
 use Rattle.readings.specs.Demand.{Demand3}
 use Rattle.matcher.specs.declared.Answer.{Answer}
 use Rattle.matcher.specs.Told.{says}

@@ -3,7 +3,7 @@ use mathlib.Core.Path.{_≡_}
 use mathlib.Core.Bool.{Bool}
 use mathlib.Core.List.{List}
 use Prim.Native.Nat.{ℕ}
-use Rattle.readings.specs.Call.{Told}
+use Rattle.plain.specs.Told.{Told}
 use Rattle.resolver.specs.Selection.{Selected, selectionSays}
 use Rattle.resolver.specs.LastPass.{OnLastPass}
 use Rattle.resolver.specs.declared.instruction.Selection.{Selection}

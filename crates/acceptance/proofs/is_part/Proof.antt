@@ -1,7 +1,6 @@
 -- `isPart`, by the tests in the order of the numbers.
 use Rattle.defs.proofs.Fits.{part-low, part-printed, part-space, part-expr, part-between, part-ruleset}
 use native.Mathlib.Omega.{arith}
-use borrow.Author.Needs.{needs}
 use Rattle.acceptance.proofs.is_part.Statement.{statement}
 use Rattle.acceptance.proofs.is_part.Tie as tie
 
@@ -20,12 +19,9 @@ returns-4 c = part-expr _ _ (omega (arith, c .if4 .taken))
 returns-5 : tie.Need-returns-5
 returns-5 c = part-between _ _ (c .before .before .before .if2 .left) (c .before .before .if3 .left) (c .before .if4 .left) (c .if5 .taken)
 
-add-result : tie.Need-add-result
-add-result c = search needs
-
 returns-6 : tie.Need-returns-6
 returns-6 c = part-ruleset _ _ (c .before .before .before .if2 .left) (c .before .before .if3 .left) (c .before .if4 .left) (c .if5 .left)
 
 pub is-part-spec : {M : Type 1} → statement M
 is-part-spec =
-    tie.close (tie.spec returns returns-2 returns-3 returns-4 returns-5 add-result returns-6)
+    tie.close (tie.spec returns returns-2 returns-3 returns-4 returns-5 returns-6)

@@ -1,9 +1,9 @@
 -- `listing::writing::put_number` meets its contract.
-use mathlib.Core.Path.{sym, ap}
-use native.Mathlib.Omega.{arith}
-use lib.ListN.{length}
+use mathlib.Core.Path.{sym}
+use mathlib.Core.List.{[], _∷_}
 use borrow.Author.Needs.{needs}
-use Rattle.listing.proofs.Laying.{laid-then, laid-as, decimal-one, decimal-two}
+use Rattle.printing.proofs.Decimals.{decimal-one, decimal-two}
+use Rattle.listing.proofs.Laying.{laid-then, laid-as, ready-as, ready-front, ready-back}
 use Rattle.listing.proofs.writing.put_number.Statement.{statement}
 use Rattle.listing.proofs.writing.put_number.Tie as tie
 
@@ -14,7 +14,7 @@ cast-put : tie.Need-cast-put
 cast-put c = search needs
 
 put-requires : tie.Need-put-requires
-put-requires c κs = omega (arith, ap length (decimal-one (c .before .before .before .args .number) (c .before .if1 .taken)))
+put-requires c κs = ready-as (decimal-one (c .before .before .before .args .number) (c .before .if1 .taken)) (c .before .before .before .pre .1)
 
 same-length : tie.Need-same-length
 same-length c = search needs
@@ -29,7 +29,7 @@ cast-put-2 : tie.Need-cast-put-2
 cast-put-2 c = search needs
 
 put-requires-2 : tie.Need-put-requires-2
-put-requires-2 c κs = omega (arith, ap length (decimal-two (c .before .before .before .args .number) (c .before .if1 .left) (c .before .before .before .pre .0)))
+put-requires-2 c κs = ready-front (_ ∷ []) (_ ∷ []) (ready-as (decimal-two (c .before .before .before .args .number) (c .before .if1 .left) (c .before .before .before .pre .0)) (c .before .before .before .pre .1))
 
 add-put-3 : tie.Need-add-put-3
 add-put-3 c = search needs
@@ -38,7 +38,7 @@ cast-put-3 : tie.Need-cast-put-3
 cast-put-3 c = search needs
 
 put-requires-3 : tie.Need-put-requires-3
-put-requires-3 c κs = omega (arith, c .before .before .before .put2 .ensures .to, ap length (decimal-two (c .before .before .before .before .before .before .before .args .number) (c .before .before .before .before .before .if1 .left) (c .before .before .before .before .before .before .before .pre .0)))
+put-requires-3 c κs = ready-back (_ ∷ []) (_ ∷ []) (ready-as (decimal-two (c .before .before .before .before .before .before .before .args .number) (c .before .before .before .before .before .if1 .left) (c .before .before .before .before .before .before .before .pre .0)) (c .before .before .before .before .before .before .before .pre .1)) (c .before .before .before .put2 .ensures)
 
 same-length-2 : tie.Need-same-length-2
 same-length-2 c = search needs

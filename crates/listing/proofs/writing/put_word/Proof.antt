@@ -1,8 +1,9 @@
 -- `listing::writing::put_word` meets its contract. The loop's invariant: what is left of the word is to be laid from here.
-use Prim.Native.Nat.{_-_}
+use mathlib.Core.Path.{_≡_}
+use Prim.Native.Nat.{_≤_, _-_}
 use native.Mathlib.Omega.{arith}
 use lib.ListN.{length, drop}
-use Rattle.listing.proofs.Laying.{Laying, laying-all, laying-next, laying-done, laying-small, word-next, word-over}
+use Rattle.listing.proofs.Laying.{Laying, laying-all, laying-next, laying-done, laying-ready, word-next, word-over}
 use Rattle.listing.proofs.writing.put_word.Statement.{statement}
 use Rattle.listing.proofs.writing.put_word.Tie as tie
 
@@ -19,7 +20,7 @@ shared-slice-read-put : tie.Need-shared-slice-read-put Inv-loop μ-loop
 shared-slice-read-put c = omega arith
 
 put-requires : tie.Need-put-requires Inv-loop μ-loop
-put-requires c κs = laying-small _ _ (word-next (c .before .before .before .before .before .before .args .word .now) (c .before .before .before .loop .i) (c .before .before .loop-test .taken)) (c .before .before .before .before .before .before .pre) (c .before .before .before .loop .inv)
+put-requires c κs = laying-ready _ _ _ (word-next (c .before .before .before .before .before .before .args .word .now) (c .before .before .before .loop .i) (c .before .before .loop-test .taken)) (c .before .before .before .before .before .before .pre) (c .before .before .before .loop .inv)
 
 add-i : tie.Need-add-i Inv-loop μ-loop
 add-i c = omega arith
