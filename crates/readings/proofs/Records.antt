@@ -293,7 +293,7 @@ module _ (t line sheet : List ℕ) (ok : tableFits t ≡ true) where
       let at : partsFrom t + (j - partsFrom t) ≡ j = omega arith in
       let good = every-at (partsIn t) (λ k. isPart (rulesetsIn t) (partWordAt t k)) (parts-fit t ok) (j - partsFrom t) (omega (arith, length-is t ok)) in
       let below = part-ruleset (rulesetsIn t) (wordAt t j) (omega arith) (λ q. omega arith) (λ q. omega arith) high ∙ ap (λ (n : ℕ). isPart (rulesetsIn t) (wordAt t n)) (sym at) ∙ good in
-      omega (arith, ltb-true (wordAt t j) (512 + rulesetsIn t) below, sizes t ok .sets)
+      omega (arith, ltb-true (wordAt t j - 512) (rulesetsIn t) below, sizes t ok .sets)
 
   pub span-within : (i : ℕ) → i < recordsIn t → (p : Parts) → p ≡ ruleSpan t i → Spanned t p
   unfolding rangesFit rangeFits ruleSpan ruleFrom
