@@ -8,7 +8,7 @@ use lib.Dec.{eqb}
 use lib.ListN.{length, getD}
 use Rattle.plain.specs.Choice.{select}
 use Rattle.plain.specs.Lists.{range, keepIf, listed}
-use Rattle.plain.proofs.Lists.{listed-length, listed-same, range-length, range-at}
+use Rattle.plain.proofs.Lists.{listed-length, listed-same, kept-same, range-length, range-at}
 use Rattle.defs.specs.Table.{rulesetsIn, recordsIn, rulesetAt, ruleParts, tableFits}
 use Rattle.defs.specs.Ruledef.{Ruleset, isTop, rulesetOf, tableOf}
 use Rattle.defs.specs.Ruledef as Ruledef
@@ -37,6 +37,17 @@ kept t s (x ∷ l) = go (eqb (rulesetAt t x) s) (kept t s l)
         ≡ map (ruleParts t) (select b (x ∷ keepIf (λ i. eqb (rulesetAt t i) s) l) (keepIf (λ i. eqb (rulesetAt t i) s) l))
     go true h = ap (λ (m : List (List Part)). ruleParts t x ∷ m) h
     go false h = h
+
+-- the rules of any ruleset, and the top rulesets' numbers, are the data's
+pub rules-of : (t : List ℕ) (r : ℕ) → rulesetOf t r .rules ≡ rulesOf r (dataOf t .rules)
+unfolding dataOf rulesOf rulesetOf Ruledef.recordsOf listed
+rules-of t r = sym (kept t r (range 0 (recordsIn t)))
+
+pub tops-of : (t : List ℕ) → keepIf (isTop t) (range 0 (rulesetsIn t)) ≡ keepIf (λ s. getD (dataOf t .tops) s false) (range 0 (length (dataOf t .tops)))
+unfolding dataOf
+tops-of t =
+    kept-same (rulesetsIn t) (isTop t) _ (λ s l. sym (entry (rulesetsIn t) (isTop t) s l))
+    ∙ ap (λ (n : ℕ). keepIf (λ s. getD (dataOf t .tops) s false) (range 0 n)) (sym (listed-length (rulesetsIn t) (isTop t)))
 
 -- a table's rulesets and rules are its data's
 pub table-says : (t : List ℕ) → rulesetsOf (dataOf t) ≡ tableOf t

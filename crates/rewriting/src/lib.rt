@@ -1,0 +1,2 @@
+// A table and its rewriting, its data packed anew, answer every call alike.
+// No code: proofs/ holds the laws.
