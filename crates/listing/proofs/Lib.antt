@@ -3,3 +3,8 @@ pub mod Writes
 pub mod Scans
 pub mod Counts
 pub mod Steps
+pub mod Rows
+pub mod Lines
+pub mod Flags
+pub mod Records
+pub mod Told

@@ -13,8 +13,8 @@ use lib.Seq.{slice, slice-empty, slice-cons, length-slice, take-suc, drop-cons, 
 use borrow.Author.Tests.{leb-true, eq-eqb, ne-eqb, le-leb, lt-ltb, le-ltb, lt-leb}
 use Rattle.plain.specs.Choice.{select}
 use Rattle.plain.specs.Lists.{every}
+use Rattle.plain.proofs.Tests.{tested, and-left, and-right, and-both, and-false-left}
 use Rattle.defs.specs.Table.{isPart}
-use Rattle.plain.proofs.Tests.{tested, not-both, and-left, and-right, and-both, and-false-left}
 use Rattle.defs.specs.declared.ruledef.Part.the-variants.{Exact, Whitespace, Expression}
 use Rattle.printing.specs.Listing.{Bytes, wsWord, exprWord, subWord, decimal}
 use Rattle.printing.specs.Reading.{same, numberOf, nestedIn, otherPart, partIn}

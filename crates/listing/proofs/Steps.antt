@@ -265,7 +265,7 @@ pub from-start : (t : Bytes) → From t 0 0 0 0 0
 unfolding read partsOf
 from-start t = record { so-far = nothing; counted = record { reached = inl refl; sets = refl; rules = refl; parts = refl; last = refl }; same-read = refl }
 
-slice-all : (t : Bytes) (at : ℕ) → slice at (length t) t ≡ drop at t
+pub slice-all : (t : Bytes) (at : ℕ) → slice at (length t) t ≡ drop at t
 slice-all t at = ap (drop at) (take-length t)
 
 pub cut-line : (t : Bytes) (at end : ℕ) → Found t at (length t) 10 end → end < length t → pieces 10 (drop at t) ≡ slice at end t ∷ pieces 10 (drop (end + 1) t)

@@ -43,6 +43,10 @@ abbrev pub wordIn : ℕ → Option Part → ℕ
 wordIn s none = 0
 wordIn s (some p) = select (isPartOf s p) (wordOf p) 0
 
+-- the word that a field says
+abbrev pub saidWord : ℕ → Bytes → ℕ
+saidWord s f = wordIn s (partIn f)
+
 -- the fields after a tab, up to a line's end
 unfoldable pub fieldsAt : Bytes → ℕ → ℕ → List Bytes
 fieldsAt text tab end = select (ltb tab end) (pieces 9 (slice (tab + 1) end text)) []

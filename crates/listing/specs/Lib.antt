@@ -1,4 +1,5 @@
 pub mod Laid
 pub mod Writing
 pub mod Judging
+pub mod Packing
 pub mod Calls

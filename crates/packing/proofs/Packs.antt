@@ -32,24 +32,24 @@ slice-mid a b c m n p q =
 
 -- ---- the packed words
 
-records-append : (f : ℕ) (xs ys : List Rule) → recordsOf f (xs ++ ys) ≡ recordsOf f xs ++ recordsOf (f + partsOf xs) ys
+pub records-append : (f : ℕ) (xs ys : List Rule) → recordsOf f (xs ++ ys) ≡ recordsOf f xs ++ recordsOf (f + partsOf xs) ys
 unfolding recordsOf partsOf
 records-append f [] ys = ap (λ (n : ℕ). recordsOf n ys) (omega arith)
 records-append f (x ∷ xs) ys =
     ap (λ (l : List ℕ). x .set ∷ f ∷ length (x .parts) ∷ l)
     (records-append (f + length (x .parts)) xs ys ∙ ap (λ (n : ℕ). recordsOf (f + length (x .parts)) xs ++ recordsOf n ys) (omega arith))
 
-records-length : (f : ℕ) (xs : List Rule) → length (recordsOf f xs) ≡ 3 * length xs
+pub records-length : (f : ℕ) (xs : List Rule) → length (recordsOf f xs) ≡ 3 * length xs
 unfolding recordsOf
 records-length f [] = refl
 records-length f (x ∷ xs) = omega (arith, records-length (f + length (x .parts)) xs)
 
-words-append : (xs ys : List Rule) → flatMap wordsOf (xs ++ ys) ≡ flatMap wordsOf xs ++ flatMap wordsOf ys
+pub words-append : (xs ys : List Rule) → flatMap wordsOf (xs ++ ys) ≡ flatMap wordsOf xs ++ flatMap wordsOf ys
 unfolding flatMap
 words-append [] ys = refl
 words-append (x ∷ xs) ys = ap (λ (l : List ℕ). wordsOf x ++ l) (words-append xs ys) ∙ sym (append-assoc (wordsOf x) (flatMap wordsOf xs) (flatMap wordsOf ys))
 
-words-length : (xs : List Rule) → length (flatMap wordsOf xs) ≡ partsOf xs
+pub words-length : (xs : List Rule) → length (flatMap wordsOf xs) ≡ partsOf xs
 unfolding flatMap partsOf
 words-length [] = refl
 words-length (x ∷ xs) = omega (arith, length-append (wordsOf x) (flatMap wordsOf xs), length-map (x .parts) wordOf, words-length xs)

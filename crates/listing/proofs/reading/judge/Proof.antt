@@ -1,5 +1,4 @@
 -- `listing::reading::judge` meets its contract. The loop's invariant: the text from here is read as the whole text is.
-use mathlib.Core.Path.{_≡_}
 use Prim.Native.Nat.{_-_}
 use native.Mathlib.Omega.{arith}
 use borrow.Author.Needs.{needs}

@@ -4,8 +4,8 @@ use mathlib.Core.Bool.{true}
 use Prim.Native.Nat.{_-_}
 use native.Mathlib.Omega.{arith}
 use borrow.Author.Needs.{needs}
-use Rattle.defs.specs.Table.{partsBetween}
 use Rattle.plain.specs.Lists.{every}
+use Rattle.defs.specs.Table.{partsBetween}
 use Rattle.packing.specs.Data.{isPartOf}
 use Rattle.listing.specs.Writing.{partsText}
 use Rattle.listing.proofs.Laying.{Laying, laying-all, laying-next, laying-done, laying-ready}

@@ -1,5 +1,5 @@
 -- `listing::writing::put_rule` meets its contract: the word, the number, the parts and the end, one after another.
-use mathlib.Core.Path.{_≡_, refl, sym}
+use mathlib.Core.Path.{refl, sym}
 use mathlib.Core.List.{[], _∷_}
 use borrow.Author.Needs.{needs}
 use Rattle.defs.proofs.Words.{parts-whole, parts-within}

@@ -1,6 +1,5 @@
 -- `listing::writing::put_word` meets its contract. The loop's invariant: what is left of the word is to be laid from here.
-use mathlib.Core.Path.{_≡_}
-use Prim.Native.Nat.{_≤_, _-_}
+use Prim.Native.Nat.{_-_}
 use native.Mathlib.Omega.{arith}
 use lib.ListN.{length, drop}
 use Rattle.listing.proofs.Laying.{Laying, laying-all, laying-next, laying-done, laying-ready, word-next, word-over}

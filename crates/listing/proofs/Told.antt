@@ -1,0 +1,78 @@
+-- What reading answers, case by case: a judged text is the listing of its data, and a refused one has its first bad line.
+use mathlib.Core.Path.{_≡_, refl, sym, ap, ap₂, _∙_, subst}
+use mathlib.Core.List.{List, flatMap, map, _++_}
+use Prim.Native.Nat.{ℕ, _≤_, _<_}
+use native.Mathlib.Omega.{arith}
+use lib.ListN.{length, length-append, length-map}
+use lib.Seq.{sets}
+use borrow.Author.Tests.{le-leb, lt-leb}
+use Rattle.plain.proofs.Sets.{sets-start}
+use Rattle.packing.specs.Data.{Data, partsOf}
+use Rattle.packing.specs.Packed.{flagOf, wordsOf, recordsOf, packed}
+use Rattle.packing.proofs.Packs.{records-length, words-length}
+use Rattle.printing.specs.Listing.{Bytes}
+use Rattle.printing.specs.Reading.{good, read}
+use Rattle.printing.proofs.Accepts.{read-good}
+use Rattle.printing.proofs.Refuses.{read-bad}
+use Rattle.listing.specs.declared.reading.ReadAnswer.{ReadAnswer}
+use Rattle.listing.specs.declared.reading.ReadAnswer.the-variants.{Whole, BadText, NoRoom}
+use Rattle.listing.specs.declared.reading.Sizes.{Sizes as Sums}
+use Rattle.listing.specs.declared.reading.Judged.{Judged}
+use Rattle.listing.specs.declared.reading.Judged.the-variants.{Good, BadAt}
+use Rattle.listing.specs.Judging.{Judges}
+use Rattle.listing.specs.Packing.{heldBy, listedIn, Listed, wordsFor}
+use Rattle.listing.specs.Calls.{told, wrote, ReadCall, listed, unlisted, readSays}
+
+-- how many words there are
+pub packed-many : (t : Bytes) (s r p : ℕ) → Listed t s r p → wordsFor s r p ≡ length (packed (listedIn t))
+unfolding packed
+packed-many t s r p h =
+    let d = listedIn t in
+    omega (
+      arith,
+      h .tops,
+      h .rules,
+      h .parts,
+      length-append (map flagOf (d .tops)) (recordsOf 0 (d .rules) ++ flatMap wordsOf (d .rules)),
+      length-append (recordsOf 0 (d .rules)) (flatMap wordsOf (d .rules)),
+      length-map (d .tops) flagOf,
+      records-length 0 (d .rules),
+      words-length (d .rules),
+    )
+
+-- a judged text
+pub said-listed : (t : Bytes) (j : Judged) (z : Sums) → j ≡ Good z → Judges (read t) j → Listed t (z .sets) (z .rules) (z .parts)
+said-listed t j z e h = go (subst (Judges (read t)) e h)
+  where
+    go : Judges (read t) (Good z) → Listed t (z .sets) (z .rules) (z .parts)
+    go (d, is, c) =
+        let held : listedIn t ≡ d = ap heldBy is in
+        record {
+          whole = is ∙ ap good (sym held);
+          tops = c .sets ∙ ap (λ (x : Data). length (x .tops)) (sym held);
+          rules = c .rules ∙ ap (λ (x : Data). length (x .rules)) (sym held);
+          parts = c .parts ∙ ap (λ (x : Data). partsOf (x .rules)) (sym held);
+        }
+
+-- a refused one, in a line of low number
+pub said-line : (t : Bytes) (j : Judged) (k : ℕ) → j ≡ BadAt k → Judges (read t) j → k ≤ 544
+said-line t j k e h = subst (Judges (read t)) e h .1
+
+pub said-bad : (t : Bytes) (room : List ℕ) (j : Judged) (k : ℕ) → j ≡ BadAt k → Judges (read t) j → ReadCall t room (readSays (BadText k) room)
+said-bad t room j k e h = unlisted k (read-bad t k (subst (Judges (read t)) e h .0)) refl
+
+module _ (t : Bytes) (s r p : ℕ) (room : List ℕ) where
+  -- what is read is the listing of its data
+  whole : Listed t s r p → (q : ReadAnswer) (b : List ℕ) → readSays q b ≡ wrote (packed (listedIn t)) room → ReadCall t room (readSays q b)
+  whole h q b e = let g = read-good t (listedIn t) (h .whole) in listed (listedIn t) (g .1) (g .0) e
+
+  pub said-short : Listed t s r p → length room < wordsFor s r p → ReadCall t room (readSays NoRoom room)
+  said-short h l = whole h NoRoom room (sym (rw (lt-leb (length (packed (listedIn t))) (length room) (omega (arith, packed-many t s r p h)))))
+
+  pub said-whole : (after : List ℕ) → Listed t s r p → wordsFor s r p ≤ length room → after ≡ sets room 0 (packed (listedIn t))
+      → ReadCall t room (readSays (Whole (wordsFor s r p)) after)
+  said-whole after h l e =
+      let n = packed-many t s r p h in
+      whole h (Whole (wordsFor s r p)) after
+      (ap₂ told n (e ∙ sets-start room (packed (listedIn t)) (omega (arith, n)))
+      ∙ sym (rw (le-leb (length (packed (listedIn t))) (length room) (omega (arith, n)))))
