@@ -8,3 +8,5 @@ pub mod Lines
 pub mod Flags
 pub mod Records
 pub mod Told
+pub mod Tight
+pub mod Twice

@@ -6,14 +6,15 @@ use native.Mathlib.Omega.{arith}
 use lib.ListN.{length, length-append, length-map}
 use lib.Seq.{sets}
 use borrow.Author.Tests.{le-leb, lt-leb}
+use Rattle.plain.specs.Told.{Told, refusedAt}
 use Rattle.plain.proofs.Sets.{sets-start}
 use Rattle.packing.specs.Data.{Data, partsOf}
 use Rattle.packing.specs.Packed.{flagOf, wordsOf, recordsOf, packed}
 use Rattle.packing.proofs.Packs.{records-length, words-length}
 use Rattle.printing.specs.Listing.{Bytes}
 use Rattle.printing.specs.Reading.{good, read}
-use Rattle.printing.proofs.Accepts.{read-good}
-use Rattle.printing.proofs.Refuses.{read-bad}
+use Rattle.printing.proofs.Accepts.{read-good, listings-apart}
+use Rattle.printing.proofs.Refuses.{read-bad, first-bad-one, not-good}
 use Rattle.listing.specs.declared.reading.ReadAnswer.{ReadAnswer}
 use Rattle.listing.specs.declared.reading.ReadAnswer.the-variants.{Whole, BadText, NoRoom}
 use Rattle.listing.specs.declared.reading.Sizes.{Sizes as Sums}
@@ -76,3 +77,10 @@ module _ (t : Bytes) (s r p : ℕ) (room : List ℕ) where
       whole h (Whole (wordsFor s r p)) after
       (ap₂ told n (e ∙ sets-start room (packed (listedIn t)) (omega (arith, n)))
       ∙ sym (rw (le-leb (length (packed (listedIn t))) (length room) (omega (arith, n)))))
+
+-- a text and its room leave one answer
+pub read-call-one : (text : Bytes) (room : List ℕ) (r s : Told) → ReadCall text room r → ReadCall text room s → r ≡ s
+read-call-one text room r s (listed d f e p) (listed c g i q) = p ∙ ap (λ (x : Data). wrote (packed x) room) (listings-apart d c f g (e ∙ sym i)) ∙ sym q
+read-call-one text room r s (listed d f e p) (unlisted k b q) = absurd (not-good text k d e f b)
+read-call-one text room r s (unlisted k b p) (listed d f e q) = absurd (not-good text k d e f b)
+read-call-one text room r s (unlisted k b p) (unlisted n c q) = p ∙ ap (λ (x : ℕ). refusedAt 15 x room) (first-bad-one text k n b c) ∙ sym q

@@ -160,7 +160,8 @@ first-bad-one text k n a b = go (decLe k n) (decLe n k)
     go (no h) i = absurd (not-before text n k (bad-at text n b) (bad-at text k a) (omega (arith, h)))
     go (yes h) (no i) = absurd (not-before text k n (bad-at text k a) (bad-at text n b) (omega (arith, i)))
 
-not-good : (text : Bytes) (k : ℕ) (d : Data) → listing d ≡ text → dataFits d ≡ true → FirstBad text k → ⊥
+-- a listing has no bad line
+pub not-good : (text : Bytes) (k : ℕ) (d : Data) → listing d ≡ text → dataFits d ≡ true → FirstBad text k → ⊥
 not-good text _ d e f (bad-line lines line rest l t c n) = n (record { whole = d; fits = f; after = rest; begins = e ∙ t })
 not-good text _ d e f (bad-end lines rest l m t c n) = n d f e
 

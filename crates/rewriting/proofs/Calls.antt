@@ -1,0 +1,61 @@
+-- A table written, and read again, answers every line as before: the contracts of the calls, one after another. The rewritten
+-- table is the table's data packed anew, so what the next call is promised of it is what it is promised of the table itself.
+use mathlib.Core.Path.{_≡_, refl, sym, ap, _∙_}
+use mathlib.Core.Bool.{Bool, true, false}
+use mathlib.Core.List.{List}
+use Prim.Native.Nat.{ℕ}
+use native.Mathlib.Omega.{arith}
+use lib.ListN.{take}
+use denote.Ref.{now}
+use Rattle.plain.specs.Choice.{select}
+use Rattle.plain.specs.Told.{Told, refusedAt}
+use Rattle.defs.specs.Table.{tableFits}
+use Rattle.packing.specs.Packed.{packed, dataOf}
+use Rattle.printing.specs.Listing.{listing}
+use Rattle.listing.specs.declared.reading.ReadAnswer.the-variants as Read
+use Rattle.listing.specs.declared.writing.WriteAnswer.the-variants as Write
+use Rattle.listing.specs.Calls.{told, wrote, writeCall}
+use Rattle.listing.proofs.Twice.{wrote-whole, table-survives}
+use Rattle.listing.proofs.reading.read_table.Reads as read-table
+use Rattle.listing.proofs.writing.write_table.Reads as write-table
+use Rattle.ruledef_map.specs.RuledefMap.{linePrefix}
+use Rattle.readings.specs.Scene.{Scene}
+use Rattle.readings.specs.Walk.{topPairs}
+use Rattle.readings.specs.Lookup.{foundPairs}
+use Rattle.readings.specs.Call.{callWith, scanCall, lookupCall}
+use Rattle.matcher.specs.declared.Answer.{Answer}
+use Rattle.matcher.specs.Told.{says}
+use Rattle.matcher.proofs.match_instr.Reads as match-instr
+use Rattle.matcher.proofs.match_with_ruledef_map.Reads as match-with-ruledef-map
+use Rattle.rewriting.proofs.Rewriting.{rewritten-call}
+
+-- only an accepted table is written
+pub written-fits : (t text : List ℕ) (n : ℕ) (b : List ℕ) → told n b ≡ writeCall t text → tableFits t ≡ true
+unfolding writeCall
+written-fits t text n b e = go (tableFits t) refl e
+  where
+    go : (q : Bool) → tableFits t ≡ q → told n b ≡ select q (wrote (listing (dataOf t)) text) (refusedAt 2 0 text) → tableFits t ≡ true
+    go true f h = f
+    go false f h = let two : _≡_ {A = ℕ} 0 2 = ap (λ (r : Told). r .number) h in absurd (omega (arith, two))
+
+module _ (κs a : _) (n : ℕ) (x : _) (written : write-table.Post κs a (Write.Whole n) x) (λs b : _) (m : ℕ) (y : _) (read : read-table.Post λs b (Read.Whole m) y)
+    (same : now (b .0) ≡ take n (now (x .1 .0))) where
+  -- the rewritten table
+  pub rewritten : take m (now (y .1 .0)) ≡ packed (dataOf (now (a .0)))
+  rewritten = wrote-whole (packed (dataOf (now (a .0)))) (now (b .1 .0)) (told m (now (y .1 .0))) (table-survives κs a n x written λs b (Read.Whole m) y read same) refl
+
+  again : (order : Scene → List (ℕ × ℕ)) (t line sheet : List ℕ) (budget : ℕ) (answer : List ℕ) → t ≡ take m (now (y .1 .0))
+      → callWith order t line sheet budget answer ≡ callWith order (now (a .0)) line sheet budget answer
+  again order t line sheet budget answer e =
+      ap (λ (u : List ℕ). callWith order u line sheet budget answer) (e ∙ rewritten)
+      ∙ rewritten-call order (now (a .0)) line sheet budget answer (written-fits (now (a .0)) (now (a .1 .0)) n (now (x .1 .0)) written)
+
+  -- a call on it answers what is promised of the table itself: by the full scan, and by prefix lookup
+  pub rewritten-scan : (μs c : _) (r : Answer) (z : _) → match-instr.Post μs c r z → now (c .0) ≡ take m (now (y .1 .0))
+      → says r (now (z .1 .1 .1 .1 .0)) ≡ scanCall (now (a .0)) (now (c .1 .0)) (now (c .1 .1 .0)) (c .1 .1 .1 .0) (now (c .1 .1 .1 .1 .0))
+  rewritten-scan μs c r z p e = p .0 ∙ again topPairs (now (c .0)) (now (c .1 .0)) (now (c .1 .1 .0)) (c .1 .1 .1 .0) (now (c .1 .1 .1 .1 .0)) e
+
+  pub rewritten-lookup : (μs c : _) (r : Answer) (z : _) → match-with-ruledef-map.Post μs c r z → now (c .0) ≡ take m (now (y .1 .0))
+      → says r (now (z .1 .1 .1 .1 .0)) ≡ lookupCall (now (a .0)) (now (c .1 .0)) (now (c .1 .1 .0)) (c .1 .1 .1 .0) (now (c .1 .1 .1 .1 .0))
+  rewritten-lookup μs c r z p e =
+      p .0 ∙ again (λ s. foundPairs s (linePrefix (s .line))) (now (c .0)) (now (c .1 .0)) (now (c .1 .1 .0)) (c .1 .1 .1 .0) (now (c .1 .1 .1 .1 .0)) e
