@@ -24,8 +24,9 @@ use Rattle.packing.proofs.Tables.{ascend-more}
 use Rattle.printing.specs.Listing.{Bytes}
 use Rattle.printing.specs.Reading.{pieces, partIn, partsIn, both}
 use Rattle.printing.proofs.Pieces.{piece-last, piece-first}
-use Rattle.listing.specs.Judging.{Found, wordIn, fieldsAt, countFrom}
-use Rattle.listing.proofs.Scans.{slice-cut}
+use Rattle.fields.specs.Said.{Found, wordIn}
+use Rattle.fields.proofs.Scans.{slice-cut}
+use Rattle.listing.specs.Judging.{fieldsAt, countFrom}
 
 -- ---- fields, one by one
 

@@ -10,7 +10,7 @@ use Rattle.plain.proofs.Sets.{sets-append}
 use Rattle.packing.specs.Packed.{flagOf}
 use Rattle.printing.specs.Listing.{Bytes, topWord, topLine, ruleLine, linesOf}
 use Rattle.printing.specs.Reading.{same}
-use Rattle.listing.specs.Judging.{Found}
+use Rattle.fields.specs.Said.{Found}
 use Rattle.listing.specs.Packing.{listedIn, Listed, LinesFrom}
 use Rattle.listing.proofs.Lines.{lines-all, Next, line-next, top-tab, top-flag}
 

@@ -1,6 +1,4 @@
-pub mod Laying
 pub mod Writes
-pub mod Scans
 pub mod Counts
 pub mod Steps
 pub mod Rows

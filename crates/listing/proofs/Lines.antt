@@ -21,7 +21,8 @@ use Rattle.printing.proofs.Pieces.{piece-last, pieces-parted, parted-pieces, pi
 use Rattle.printing.proofs.Decimals.{number-decimal}
 use Rattle.printing.proofs.Fields.{part-read, top-lacks, rule-lacks}
 use Rattle.printing.proofs.Accepts.{lines-lack, read-good}
-use Rattle.listing.specs.Judging.{Found, lowNumber, wordIn, saidWord, fieldsAt}
+use Rattle.fields.specs.Said.{Found, lowNumber, wordIn, saidWord}
+use Rattle.listing.specs.Judging.{fieldsAt}
 use Rattle.listing.specs.Packing.{listedIn, Listed, LinesFrom}
 use Rattle.listing.proofs.Counts.{fields-over, fields-open, fields-next, pieces-at}
 use Rattle.listing.proofs.Steps.{slice-all, cut-line}

@@ -20,8 +20,9 @@ use Rattle.packing.proofs.Limits.{partsOf-append}
 use Rattle.packing.proofs.Packs.{records-append, records-length, words-append, words-length}
 use Rattle.printing.specs.Listing.{Bytes, partField, ruleLine}
 use Rattle.printing.specs.Reading.{numberOf}
-use Rattle.listing.specs.Laid.{Laid}
-use Rattle.listing.specs.Judging.{Found, lowNumber, saidWord, fieldsAt}
+use Rattle.fields.specs.Laid.{Laid}
+use Rattle.fields.specs.Said.{Found, lowNumber, saidWord}
+use Rattle.listing.specs.Judging.{fieldsAt}
 use Rattle.listing.specs.Packing.{listedIn, Listed, LinesFrom, partsPlace, wordsFor, withRules}
 use Rattle.listing.proofs.Lines.{listed-fits, listed-small, Next, line-next, rule-tab, rule-number, rule-fields, said-words}
 

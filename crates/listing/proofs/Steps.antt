@@ -25,11 +25,12 @@ use Rattle.printing.proofs.Pieces.{same-refl, same-true, piece-last, piece-firs
 use Rattle.printing.proofs.Fields.{top-is}
 use Rattle.printing.proofs.Accepts.{checked-is, read-next, line-added, lines-many}
 use Rattle.printing.proofs.Refuses.{stops}
-use Rattle.listing.specs.declared.reading.Sizes.{Sizes as Sums}
-use Rattle.listing.specs.declared.reading.Line.{Line}
-use Rattle.listing.specs.declared.reading.Line.the-variants.{Fits, Bad}
-use Rattle.listing.specs.Judging.{Found, lowNumber, fieldsAt, countFrom, Counted, LineSays}
-use Rattle.listing.proofs.Scans.{same-not, slice-cut}
+use Rattle.fields.specs.Said.{Found, lowNumber}
+use Rattle.fields.proofs.Scans.{same-not, slice-cut}
+use Rattle.listing.specs.declared.judging.Sizes.{Sizes as Sums}
+use Rattle.listing.specs.declared.judging.Line.{Line}
+use Rattle.listing.specs.declared.judging.Line.the-variants.{Fits, Bad}
+use Rattle.listing.specs.Judging.{fieldsAt, countFrom, Counted, LineSays}
 use Rattle.listing.proofs.Counts.{fields-over, fields-open, pieces-at, Said, Unsaid, counted, rule-more, More, more-rule}
 
 -- nothing, or something

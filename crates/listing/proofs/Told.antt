@@ -17,9 +17,9 @@ use Rattle.printing.proofs.Accepts.{read-good, listings-apart}
 use Rattle.printing.proofs.Refuses.{read-bad, first-bad-one, not-good}
 use Rattle.listing.specs.declared.reading.ReadAnswer.{ReadAnswer}
 use Rattle.listing.specs.declared.reading.ReadAnswer.the-variants.{Whole, BadText, NoRoom}
-use Rattle.listing.specs.declared.reading.Sizes.{Sizes as Sums}
-use Rattle.listing.specs.declared.reading.Judged.{Judged}
-use Rattle.listing.specs.declared.reading.Judged.the-variants.{Good, BadAt}
+use Rattle.listing.specs.declared.judging.Sizes.{Sizes as Sums}
+use Rattle.listing.specs.declared.judging.Judged.{Judged}
+use Rattle.listing.specs.declared.judging.Judged.the-variants.{Good, BadAt}
 use Rattle.listing.specs.Judging.{Judges}
 use Rattle.listing.specs.Packing.{heldBy, listedIn, Listed, wordsFor}
 use Rattle.listing.specs.Calls.{told, wrote, ReadCall, listed, unlisted, readSays}

@@ -1,7 +1,6 @@
 -- Two calls in a row: a text read and written again, and a table written and read again. First over what calls tell, then over
 -- the contracts, whatever the room of either call was.
-use mathlib.Core.Path.{_≡_, refl, sym, ap, ap₂, _∙_, subst}
-use mathlib.Core.Logic.{_⊎_, inl, inr}
+use mathlib.Core.Path.{_≡_, refl, ap, _∙_, subst}
 use mathlib.Core.Bool.{Bool, true, false}
 use mathlib.Core.List.{List}
 use Prim.Native.Nat.{ℕ}
@@ -13,9 +12,7 @@ use denote.Ref.{now}
 use Rattle.plain.specs.Choice.{select}
 use Rattle.plain.specs.Buffers.{atStart}
 use Rattle.plain.specs.Told.{Told, refusedAt}
-use Rattle.plain.proofs.Tests.{tested}
 use Rattle.defs.specs.Table.{tableFits}
-use Rattle.packing.specs.Data.{Data}
 use Rattle.packing.specs.Packed.{packed, dataOf}
 use Rattle.printing.specs.Listing.{Bytes, listing}
 use Rattle.printing.proofs.Rounds.{text-again, table-again}

@@ -25,16 +25,13 @@ use Rattle.packing.proofs.Tables.{Accepted, accepted-all, set-test, range-test,
 use Rattle.printing.specs.Listing.{Bytes, rulesetWord, ruleWord, topField, decimal, partField, parted, ended, topLine, ruleLine, linesOf, listing}
 use Rattle.printing.proofs.Pieces.{ended-append}
 use Rattle.printing.proofs.Decimals.{decimal-one, decimal-two}
+use Rattle.fields.specs.Laid.{Laid, Ready, partText}
+use Rattle.fields.proofs.Laying.{Laying, laying-all, ready-as}
 use Rattle.listing.specs.declared.writing.WriteAnswer.the-variants.{Whole, BadTable, NoRoom}
-use Rattle.listing.specs.Laid.{Laid, Ready}
-use Rattle.listing.specs.Writing.{partText, partsText, ruleText, topText, rulesText, topsText}
+use Rattle.listing.specs.Writing.{partsText, ruleText, topText, rulesText, topsText}
 use Rattle.listing.specs.Calls.{told, writeCall, writeSays}
-use Rattle.listing.proofs.Laying.{Laying, laying-all, ready-as}
 
 -- ---- parts
-
-pub nested-low : (p : Part) (r : ℕ) → p ≡ Nested r → isPartOf 32 p ≡ true → r < 100
-nested-low p r e h = omega (arith, ltb-true r 32 (ap (isPartOf 32) (sym e) ∙ h))
 
 module _ (t : List ℕ) (at end : ℕ) (fits : end ≤ length t) (here : at < end) (p : Part) (is : p ≡ partOf (wordAt t at)) where
   next-is : partsBetween t at end ≡ p ∷ partsBetween t (at + 1) end

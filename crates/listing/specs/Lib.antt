@@ -1,4 +1,3 @@
-pub mod Laid
 pub mod Writing
 pub mod Judging
 pub mod Packing

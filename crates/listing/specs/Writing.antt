@@ -7,11 +7,8 @@ use Rattle.defs.specs.Ruledef.{isTop}
 use Rattle.defs.specs.declared.ruledef.Part.{Part}
 use Rattle.packing.specs.Data.{Rule}
 use Rattle.packing.specs.Packed.{ruleAt}
-use Rattle.printing.specs.Listing.{Bytes, partField, topLine, ruleLine, ended}
-
--- a part's field after its tab
-abbrev pub partText : Part → Bytes
-partText p = 9 ∷ partField p
+use Rattle.printing.specs.Listing.{Bytes, topLine, ruleLine, ended}
+use Rattle.fields.specs.Laid.{partText}
 
 unfoldable pub partsText : List Part → Bytes
 partsText ps = flatMap partText ps

@@ -1,25 +1,24 @@
 // A table's listing. One function lays it into lent bytes as far as they reach, and says how long it is, so laying it into a
 // byte measures it. It refuses words that are no table (2) and a listing that has no room (16).
-use crate::words;
 use acceptance;
 use defs::ruledef;
-use defs::ruledef::Part;
+use fields::words;
+use fields::writing::put;
+use fields::writing::put_number;
+use fields::writing::put_part;
+use fields::writing::put_word;
 ghost use mathlib.Core.Path.{_≡_};
 ghost use mathlib.Core.Bool.{true};
-ghost use mathlib.Core.List.{[], _∷_};
 ghost use Prim.Native.Nat.{_<_, _≤_};
 ghost use lib.ListN.{length};
 ghost use Rattle.plain.specs.Lists.{every};
 ghost use Rattle.defs.specs.Table.{rulesetsIn, recordsIn, partsBetween, tableFits};
 ghost use Rattle.packing.specs.Data.{isPartOf};
 ghost use Rattle.packing.specs.Packed.{ruleAt, dataOf};
-ghost use Rattle.printing.specs.Listing.{decimal, partField, topField, listing};
+ghost use Rattle.printing.specs.Listing.{topField, listing};
+ghost use Rattle.fields.specs.Laid.{Laid, Ready};
 ghost use Rattle.listing.specs.Calls.{writeSays, writeCall};
-ghost use Rattle.listing.specs.Laid.{Laid, Ready};
-ghost use Rattle.listing.specs.Writing.{partText, partsText, ruleText, topText, rulesText, topsText};
-
-// Digits are from 48 on.
-const ZERO: usize = 48;
+ghost use Rattle.listing.specs.Writing.{partsText, ruleText, topText, rulesText, topsText};
 
 // What writing answers. `writeSays` gives each case's number and fields.
 pub enum WriteAnswer {
@@ -29,70 +28,6 @@ pub enum WriteAnswer {
     BadTable,
     // 16: the listing is longer than its room.
     NoRoom,
-}
-
-// Lays a byte, if there is room for it, and gives the place after it.
-fn put(text: &mut [u8], at: usize, byte: u8) -> usize
-    requires { ⌜ Ready at (byte ∷ []) ⌝ }
-    ensures laid { λ r. ⌜ Laid (now (text .entry)) at (byte ∷ []) (now (text .exit)) r ⌝ }
-{
-    let next = at + 1;
-    if at < text.len() {
-        text[at] = byte;
-    }
-    next
-}
-
-fn put_word(text: &mut [u8], at: usize, word: &[u8]) -> usize
-    requires { ⌜ Ready at (now word) ⌝ }
-    ensures laid { λ r. ⌜ Laid (now (text .entry)) at (now (word .entry)) (now (text .exit)) r ⌝ }
-{
-    let mut to = at;
-    let mut i = 0;
-    while i < word.len() {
-        to = put(text, to, word[i]);
-        i = i + 1;
-    }
-    to
-}
-
-// Numbers are decimal without leading zeros.
-fn put_number(text: &mut [u8], at: usize, number: usize) -> usize
-    requires { ⌜ number < 100 ⌝ }
-    requires { ⌜ Ready at (decimal number) ⌝ }
-    ensures laid { λ r. ⌜ Laid (now (text .entry)) at (decimal number) (now (text .exit)) r ⌝ }
-{
-    if number < 10 {
-        return put(text, at, (ZERO + number) as u8);
-    }
-    let to = put(text, at, (ZERO + number / 10) as u8);
-    put(text, to, (ZERO + number % 10) as u8)
-}
-
-fn put_field(text: &mut [u8], at: usize, part: Part) -> usize
-    requires { ⌜ isPartOf 32 part ≡ true ⌝ }
-    requires { ⌜ Ready at (partField part) ⌝ }
-    ensures laid { λ r. ⌜ Laid (now (text .entry)) at (partField part) (now (text .exit)) r ⌝ }
-{
-    match part {
-        Part::Exact(byte) => put(text, at, byte),
-        Part::Whitespace => put_word(text, at, &words::WS),
-        Part::Expression => put_word(text, at, &words::EXPR),
-        Part::Nested(set) => {
-            let number = put_word(text, at, &words::SUB);
-            put_number(text, number, set)
-        }
-    }
-}
-
-// A part's field, and the tab before it.
-fn put_part(text: &mut [u8], at: usize, part: Part) -> usize
-    requires { ⌜ isPartOf 32 part ≡ true ⌝ }
-    requires { ⌜ Ready at (partText part) ⌝ }
-    ensures laid { λ r. ⌜ Laid (now (text .entry)) at (partText part) (now (text .exit)) r ⌝ }
-{
-    let field = put(text, at, words::TAB);
-    put_field(text, field, part)
 }
 
 // The fields of the parts whose words stand from one place to before another.

@@ -4,9 +4,11 @@ use Prim.Native.Nat.{_+_, _≤_, _-_}
 use native.Mathlib.Omega.{arith}
 use lib.Seq.{slice}
 use Rattle.printing.specs.Reading.{partIn}
-use Rattle.listing.specs.Judging.{saidWord, fieldsAt}
-use Rattle.listing.proofs.Laying.{Laying, laying-all, laying-next, laying-done, laid-in}
-use Rattle.listing.proofs.Rows.{word-small, said-next, said-over, said-room}
+use Rattle.fields.specs.Said.{saidWord}
+use Rattle.fields.proofs.Laying.{Laying, laying-all, laying-next, laying-done, laid-in}
+use Rattle.fields.proofs.Parts.{word-small}
+use Rattle.listing.specs.Judging.{fieldsAt}
+use Rattle.listing.proofs.Rows.{said-next, said-over, said-room}
 use Rattle.listing.proofs.reading.lay_parts.Statement.{statement}
 use Rattle.listing.proofs.reading.lay_parts.Tie as tie
 

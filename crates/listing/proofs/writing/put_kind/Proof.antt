@@ -2,7 +2,7 @@
 use mathlib.Core.Path.{sym, ap}
 use borrow.Author.Needs.{needs}
 use Rattle.printing.specs.Listing.{topField}
-use Rattle.listing.proofs.Laying.{laid-as, ready-as}
+use Rattle.fields.proofs.Laying.{laid-as, ready-as}
 use Rattle.listing.proofs.writing.put_kind.Statement.{statement}
 use Rattle.listing.proofs.writing.put_kind.Tie as tie
 

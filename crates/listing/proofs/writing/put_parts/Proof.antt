@@ -7,8 +7,8 @@ use borrow.Author.Needs.{needs}
 use Rattle.plain.specs.Lists.{every}
 use Rattle.defs.specs.Table.{partsBetween}
 use Rattle.packing.specs.Data.{isPartOf}
+use Rattle.fields.proofs.Laying.{Laying, laying-all, laying-next, laying-done, laying-ready}
 use Rattle.listing.specs.Writing.{partsText}
-use Rattle.listing.proofs.Laying.{Laying, laying-all, laying-next, laying-done, laying-ready}
 use Rattle.listing.proofs.Writes.{parts-step, part-here, parts-after, parts-over}
 use Rattle.listing.proofs.writing.put_parts.Statement.{statement}
 use Rattle.listing.proofs.writing.put_parts.Tie as tie

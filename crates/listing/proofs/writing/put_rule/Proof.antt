@@ -4,8 +4,8 @@ use mathlib.Core.List.{[], _∷_}
 use borrow.Author.Needs.{needs}
 use Rattle.defs.proofs.Words.{parts-whole, parts-within}
 use Rattle.printing.specs.Listing.{ruleWord, decimal}
+use Rattle.fields.proofs.Laying.{laid-then, laid-as, ready-as, ready-front, ready-back}
 use Rattle.listing.specs.Writing.{partsText}
-use Rattle.listing.proofs.Laying.{laid-then, laid-as, ready-as, ready-front, ready-back}
 use Rattle.listing.proofs.Writes.{rule-line, set-low, parts-low}
 use Rattle.listing.proofs.writing.put_rule.Statement.{statement}
 use Rattle.listing.proofs.writing.put_rule.Tie as tie

@@ -3,7 +3,7 @@ use mathlib.Core.Path.{sym}
 use mathlib.Core.List.{[], _∷_}
 use borrow.Author.Needs.{needs}
 use Rattle.printing.specs.Listing.{rulesetWord, topField}
-use Rattle.listing.proofs.Laying.{laid-then, laid-as, ready-as, ready-front, ready-back}
+use Rattle.fields.proofs.Laying.{laid-then, laid-as, ready-as, ready-front, ready-back}
 use Rattle.listing.proofs.Writes.{top-line}
 use Rattle.listing.proofs.writing.put_top.Statement.{statement}
 use Rattle.listing.proofs.writing.put_top.Tie as tie

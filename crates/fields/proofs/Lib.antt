@@ -1,0 +1,4 @@
+pub mod Scans
+pub mod Laying
+pub mod Parts
+pub mod Tight

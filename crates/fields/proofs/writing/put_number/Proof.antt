@@ -1,0 +1,65 @@
+-- `fields::writing::put_number` meets its contract.
+use mathlib.Core.Path.{sym}
+use mathlib.Core.List.{[], _∷_}
+use borrow.Author.Needs.{needs}
+use Rattle.printing.proofs.Decimals.{decimal-one, decimal-two}
+use Rattle.fields.proofs.Laying.{laid-then, laid-as, ready-as, ready-front, ready-back}
+use Rattle.fields.proofs.writing.put_number.Statement.{statement}
+use Rattle.fields.proofs.writing.put_number.Tie as tie
+
+add-put : tie.Need-add-put
+add-put c = search needs
+
+cast-put : tie.Need-cast-put
+cast-put c = search needs
+
+put-requires : tie.Need-put-requires
+put-requires c κs = ready-as (decimal-one (c .before .before .before .args .number) (c .before .if1 .taken)) (c .before .before .before .pre .1)
+
+same-length : tie.Need-same-length
+same-length c = search needs
+
+returns : tie.Need-returns
+returns c = laid-as (sym (decimal-one (c .before .before .before .before .before .before .args .number) (c .before .before .before .before .if1 .taken))) (c .before .before .put .ensures)
+
+add-put-2 : tie.Need-add-put-2
+add-put-2 c = search needs
+
+cast-put-2 : tie.Need-cast-put-2
+cast-put-2 c = search needs
+
+put-requires-2 : tie.Need-put-requires-2
+put-requires-2 c κs = ready-front (_ ∷ []) (_ ∷ []) (ready-as (decimal-two (c .before .before .before .args .number) (c .before .if1 .left) (c .before .before .before .pre .0)) (c .before .before .before .pre .1))
+
+add-put-3 : tie.Need-add-put-3
+add-put-3 c = search needs
+
+cast-put-3 : tie.Need-cast-put-3
+cast-put-3 c = search needs
+
+put-requires-3 : tie.Need-put-requires-3
+put-requires-3 c κs = ready-back (_ ∷ []) (_ ∷ []) (ready-as (decimal-two (c .before .before .before .before .before .before .before .args .number) (c .before .before .before .before .before .if1 .left) (c .before .before .before .before .before .before .before .pre .0)) (c .before .before .before .before .before .before .before .pre .1)) (c .before .before .before .put2 .ensures)
+
+same-length-2 : tie.Need-same-length-2
+same-length-2 c = search needs
+
+returns-2 : tie.Need-returns-2
+returns-2 c = laid-as (sym (decimal-two (c .before .before .before .before .before .before .before .before .before .before .args .number) (c .before .before .before .before .before .before .before .before .if1 .left) (c .before .before .before .before .before .before .before .before .before .before .pre .0))) (laid-then (c .before .before .before .before .before .before .put2 .ensures) (c .before .before .put3 .ensures))
+
+pub put-number-spec : {M : Type 1} → statement M
+put-number-spec =
+    tie.close
+    (tie.spec
+    add-put
+    cast-put
+    put-requires
+    same-length
+    returns
+    add-put-2
+    cast-put-2
+    put-requires-2
+    add-put-3
+    cast-put-3
+    put-requires-3
+    same-length-2
+    returns-2)

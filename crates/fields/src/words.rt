@@ -1,0 +1,21 @@
+// The words of a listing, each standing here alone: the reader compares them byte for byte, the writer writes them.
+pub const RULESET: [u8; 7] = *b"ruleset";
+
+pub const RULE: [u8; 4] = *b"rule";
+
+pub const TOP: [u8; 3] = *b"top";
+
+pub const NESTED: [u8; 6] = *b"nested";
+
+pub const WS: [u8; 2] = *b"ws";
+
+pub const EXPR: [u8; 4] = *b"expr";
+
+pub const SUB: [u8; SUB_LENGTH] = *b"sub";
+
+pub const SUB_LENGTH: usize = 3;
+
+// Byte 9 parts the fields, byte 10 ends the line.
+pub const TAB: u8 = 9;
+
+pub const END: u8 = 10;

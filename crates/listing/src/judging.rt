@@ -1,0 +1,181 @@
+// The judging pass: whether a text is a listing of data within document 01's limits, and of how many rulesets, rules and parts;
+// if not, its first bad line. Lines are judged in sequence, by what the lines before them have.
+use defs::ruledef;
+use fields::reading::NO_PART;
+use fields::reading::find;
+use fields::reading::is_word;
+use fields::reading::number;
+use fields::reading::part_word;
+use fields::words;
+ghost use mathlib.Core.Path.{_≡_};
+ghost use Prim.Native.Nat.{_≤_};
+ghost use lib.ListN.{length};
+ghost use lib.Seq.{slice};
+ghost use Rattle.packing.specs.Data.{Data};
+ghost use Rattle.printing.specs.Reading.{pieces, topIn, ruleIn, addTop, addRule, readLine, read};
+ghost use Rattle.listing.specs.Judging.{fieldsAt, countFrom, Counted, Countable, LineSays, Judges};
+
+// What the lines so far have: S, R, P, and the last rule's ruleset.
+pub struct Sizes {
+    pub sets: usize,
+    pub rules: usize,
+    pub parts: usize,
+    pub last: usize,
+}
+
+// The whole text: what there is, or its first bad line.
+pub enum Judged {
+    Good(Sizes),
+    BadAt(usize),
+}
+
+// One more line: what there is with it, or it is bad.
+pub enum Line {
+    Fits(Sizes),
+    Bad,
+}
+
+// How many parts a rule's fields say, from a tab to the line's end; 65 if there are more than 64, or more than 8
+// parameters, or some field says no part within the limits.
+fn judge_parts(text: &[u8], at: usize, end: usize, sets: usize) -> usize
+    requires { ⌜ at ≤ end ⌝ }
+    requires { ⌜ end ≤ length (now text) ⌝ }
+    requires { ⌜ sets ≤ 32 ⌝ }
+    ensures answers { λ r. ⌜ r ≡ countFrom sets 0 0 (fieldsAt (now (text .entry)) at end) ⌝ }
+{
+    let mut tab = at;
+    let mut count = 0;
+    let mut parameters = 0;
+    while tab < end {
+        let from = tab + 1;
+        tab = find(text, from, end, words::TAB);
+        let word = part_word(text, from, tab, sets);
+        if word == NO_PART {
+            return ruledef::MOST_PARTS_A_RULE + 1;
+        }
+        count = count + 1;
+        if count > ruledef::MOST_PARTS_A_RULE {
+            return ruledef::MOST_PARTS_A_RULE + 1;
+        }
+        if word > ruledef::WHITESPACE {
+            parameters = parameters + 1;
+        }
+    }
+    if parameters > ruledef::MOST_PARAMETERS {
+        return ruledef::MOST_PARTS_A_RULE + 1;
+    }
+    count
+}
+
+// A ruleset's line, by the field after its word.
+fn judge_top(text: &[u8], at: usize, end: usize, sums: Sizes) -> Line
+    requires { ⌜ at ≤ end ⌝ }
+    requires { ⌜ end ≤ length (now text) ⌝ }
+    requires { ⌜ Countable (sums .sets) (sums .rules) (sums .parts) (sums .last) ⌝ }
+    ensures says { λ r.
+        ⌜ ((d : Data) → Counted d (sums .sets) (sums .rules) (sums .parts) (sums .last) → LineSays (addTop d (d .rules) (topIn (pieces 9 (slice at end (now (text .entry)))))) r) ⌝ }
+{
+    if sums.rules > 0 {
+        return Line::Bad;
+    }
+    if sums.sets == ruledef::MOST_RULESETS {
+        return Line::Bad;
+    }
+    let next = Sizes {
+        sets: sums.sets + 1,
+        rules: 0,
+        parts: 0,
+        last: 0,
+    };
+    if is_word(text, at, end, &words::TOP) {
+        return Line::Fits(next);
+    }
+    if is_word(text, at, end, &words::NESTED) {
+        return Line::Fits(next);
+    }
+    Line::Bad
+}
+
+// A rule's line, by the fields after its word.
+fn judge_rule(text: &[u8], at: usize, end: usize, sums: Sizes) -> Line
+    requires { ⌜ at ≤ end ⌝ }
+    requires { ⌜ end ≤ length (now text) ⌝ }
+    requires { ⌜ Countable (sums .sets) (sums .rules) (sums .parts) (sums .last) ⌝ }
+    ensures says { λ r.
+        ⌜ ((d : Data) → Counted d (sums .sets) (sums .rules) (sums .parts) (sums .last) → LineSays (addRule d (ruleIn (pieces 9 (slice at end (now (text .entry)))))) r) ⌝ }
+{
+    let tab = find(text, at, end, words::TAB);
+    let set = number(text, at, tab);
+    if set >= sums.sets {
+        return Line::Bad;
+    }
+    if set < sums.last {
+        return Line::Bad;
+    }
+    if sums.rules == ruledef::MOST_RULES {
+        return Line::Bad;
+    }
+    let count = judge_parts(text, tab, end, sums.sets);
+    if count > ruledef::MOST_PARTS_A_RULE {
+        return Line::Bad;
+    }
+    if sums.parts + count > ruledef::MOST_PARTS {
+        return Line::Bad;
+    }
+    Line::Fits(Sizes {
+        sets: sums.sets,
+        rules: sums.rules + 1,
+        parts: sums.parts + count,
+        last: set,
+    })
+}
+
+// One more line.
+fn judge_line(text: &[u8], at: usize, end: usize, sums: Sizes) -> Line
+    requires { ⌜ at ≤ end ⌝ }
+    requires { ⌜ end ≤ length (now text) ⌝ }
+    requires { ⌜ Countable (sums .sets) (sums .rules) (sums .parts) (sums .last) ⌝ }
+    ensures says { λ r.
+        ⌜ ((d : Data) → Counted d (sums .sets) (sums .rules) (sums .parts) (sums .last) → LineSays (readLine d (slice at end (now (text .entry)))) r) ⌝ }
+{
+    let tab = find(text, at, end, words::TAB);
+    if tab == end {
+        return Line::Bad;
+    }
+    if is_word(text, at, tab, &words::RULESET) {
+        return judge_top(text, tab + 1, end, sums);
+    }
+    if is_word(text, at, tab, &words::RULE) {
+        return judge_rule(text, tab + 1, end, sums);
+    }
+    Line::Bad
+}
+
+// The whole text. Each line so far is a ruleset or a rule, so their number is the number of the next line.
+pub fn judge(text: &[u8]) -> Judged
+    ensures says { λ r. ⌜ Judges (read (now (text .entry))) r ⌝ }
+{
+    let mut sums = Sizes {
+        sets: 0,
+        rules: 0,
+        parts: 0,
+        last: 0,
+    };
+    let mut at = 0;
+    while at < text.len() {
+        let end = find(text, at, text.len(), words::END);
+        if end == text.len() {
+            return Judged::BadAt(sums.sets + sums.rules);
+        }
+        let judged = judge_line(text, at, end, sums);
+        let Line::Fits(next) = judged else {
+            return Judged::BadAt(sums.sets + sums.rules);
+        };
+        sums = next;
+        at = end + 1;
+    }
+    if sums.sets == 0 {
+        return Judged::BadAt(sums.sets + sums.rules);
+    }
+    Judged::Good(sums)
+}
