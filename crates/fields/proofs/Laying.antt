@@ -58,6 +58,9 @@ laid-out text at b h = record { left = sym (set-out text at b h); to = omega ari
 pub ready-as : {i : ℕ} {xs ys : List ℕ} → xs ≡ ys → Ready i xs → Ready i ys
 ready-as {i} e r = subst (Ready i) e r
 
+pub ready-short : {i : ℕ} (xs ys : List ℕ) → length ys ≤ length xs → Ready i xs → Ready i ys
+ready-short xs ys h r = record { small = omega (arith, h, r .small) }
+
 pub ready-front : {i : ℕ} (xs ys : List ℕ) → Ready i (xs ++ ys) → Ready i xs
 ready-front xs ys r = record { small = omega (arith, r .small, length-append xs ys) }
 

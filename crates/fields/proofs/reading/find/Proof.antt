@@ -22,7 +22,7 @@ shared-slice-read-if1 : tie.Need-shared-slice-read-if1 Inv-loop μ-loop
 shared-slice-read-if1 c = omega arith
 
 returns : tie.Need-returns Inv-loop μ-loop
-returns c = record { from = c .before .before .before .loop .inv .0; to = c .before .before .before .loop .inv .1; before = c .before .before .before .loop .inv .2; holds = λ h. c .if1 .taken }
+returns c = record { from = omega (arith, c .before .before .before .loop .inv .0); to = omega (arith, c .before .before .before .loop .inv .1, c .before .before .loop-test .taken); before = c .before .before .before .loop .inv .2; holds = λ h. omega (arith, c .if1 .taken) }
 
 add-place : tie.Need-add-place Inv-loop μ-loop
 add-place c = omega arith
@@ -31,7 +31,7 @@ loop-less : tie.Need-loop-less Inv-loop μ-loop
 loop-less c = omega arith
 
 loop-again : tie.Need-loop-again Inv-loop μ-loop
-loop-again c = (omega arith, omega arith, sought-more (c .before .before .before .before .args .text .now) (c .before .before .before .before .args .at) (c .before .before .before .loop .place) (c .before .before .before .before .args .byte) (c .before .before .before .loop .inv .0) (omega arith) (c .if1 .left) (c .before .before .before .loop .inv .2))
+loop-again c = (omega arith, omega arith, sought-more (c .before .before .before .before .args .text .now) (c .before .before .before .before .args .at) (c .before .before .before .loop .place) (c .before .before .before .before .args .byte) (c .before .before .before .loop .inv .0) (omega arith) (λ e. omega (arith, e, c .if1 .left)) (c .before .before .before .loop .inv .2))
 
 returns-2 : tie.Need-returns-2 Inv-loop μ-loop
 returns-2 c = let e : c .before .loop .place ≡ c .before .before .args .end = omega arith in record { from = omega arith; to = omega arith; before = rw (← e) (c .before .loop .inv .2); holds = λ h. absurd (omega arith) }

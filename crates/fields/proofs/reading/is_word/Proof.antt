@@ -19,7 +19,7 @@ sub-if1 : tie.Need-sub-if1 Inv-loop μ-loop
 sub-if1 c = omega arith
 
 returns : tie.Need-returns Inv-loop μ-loop
-returns c = sym (same-not (slice (c .before .args .at) (c .before .args .end) (c .before .args .text .now)) (c .before .args .word .now) (λ e. c .if1 .taken (sym (slice-size (c .before .args .text .now) (c .before .args .at) (c .before .args .end) (c .before .pre .1)) ∙ e)))
+returns c = sym (same-not (slice (c .before .args .at) (c .before .args .end) (c .before .args .text .now)) (c .before .args .word .now) (λ e. omega (arith, e, slice-size (c .before .args .text .now) (c .before .args .at) (c .before .args .end) (c .before .pre .1), c .if1 .taken)))
 
 loop-holds : tie.Need-loop-holds Inv-loop μ-loop
 loop-holds c = same-first (c .before .args .text .now) (c .before .args .word .now) (c .before .args .at) (c .before .args .end)
@@ -34,7 +34,7 @@ shared-slice-read-if2-2 : tie.Need-shared-slice-read-if2-2 Inv-loop μ-loop
 shared-slice-read-if2-2 c = omega arith
 
 returns-2 : tie.Need-returns-2 Inv-loop μ-loop
-returns-2 c = sym (same-stop (c .before .before .before .before .before .before .args .text .now) (c .before .before .before .before .before .before .args .word .now) (c .before .before .before .before .before .before .args .at) (c .before .before .before .before .loop .i) (c .before .before .before .before .before .before .args .end) (c .before .before .before .before .before .before .pre .1) (omega arith) (c .before .before .before .loop-test .taken) (c .if2 .taken)) ∙ c .before .before .before .before .loop .inv
+returns-2 c = sym (same-stop (c .before .before .before .before .before .before .args .text .now) (c .before .before .before .before .before .before .args .word .now) (c .before .before .before .before .before .before .args .at) (c .before .before .before .before .loop .i) (c .before .before .before .before .before .before .args .end) (c .before .before .before .before .before .before .pre .1) (omega arith) (omega (arith, c .before .before .before .loop-test .taken)) (λ e. omega (arith, e, c .if2 .taken))) ∙ c .before .before .before .before .loop .inv
 
 add-i : tie.Need-add-i Inv-loop μ-loop
 add-i c = omega arith
@@ -43,10 +43,10 @@ loop-less : tie.Need-loop-less Inv-loop μ-loop
 loop-less c = omega arith
 
 loop-again : tie.Need-loop-again Inv-loop μ-loop
-loop-again c = same-step (c .before .before .before .before .before .before .args .text .now) (c .before .before .before .before .before .before .args .word .now) (c .before .before .before .before .before .before .args .at) (c .before .before .before .before .loop .i) (c .before .before .before .before .before .before .args .end) (c .before .before .before .before .before .before .pre .1) (omega arith) (c .before .before .before .loop-test .taken) (c .if2 .left) ∙ c .before .before .before .before .loop .inv
+loop-again c = same-step (c .before .before .before .before .before .before .args .text .now) (c .before .before .before .before .before .before .args .word .now) (c .before .before .before .before .before .before .args .at) (c .before .before .before .before .loop .i) (c .before .before .before .before .before .before .args .end) (c .before .before .before .before .before .before .pre .1) (omega arith) (omega (arith, c .before .before .before .loop-test .taken)) (omega (arith, c .if2 .left)) ∙ c .before .before .before .before .loop .inv
 
 returns-3 : tie.Need-returns-3 Inv-loop μ-loop
-returns-3 c = sym (same-over (c .before .before .before .args .text .now) (c .before .before .before .args .word .now) (c .before .before .before .args .at) (c .before .loop .i) (c .before .before .before .args .end) (c .before .before .before .pre .1) (omega arith) (c .loop-test .left)) ∙ c .before .loop .inv
+returns-3 c = sym (same-over (c .before .before .before .args .text .now) (c .before .before .before .args .word .now) (c .before .before .before .args .at) (c .before .loop .i) (c .before .before .before .args .end) (c .before .before .before .pre .1) (omega arith) (omega (arith, c .loop-test .left))) ∙ c .before .loop .inv
 
 pub is-word-spec : {M : Type 1} → statement M
 is-word-spec =

@@ -21,13 +21,13 @@ digit-requires : tie.Need-digit-requires
 digit-requires c κs = search needs
 
 returns : tie.Need-returns
-returns c = c .digit .ensures ∙ low-one _ ∙ ap (λ (x : Bytes). lowNumber (numberOf x)) (sym (slice-one (c .before .before .before .before .args .text .now) (c .before .before .before .before .args .at) (c .before .before .before .before .args .end) (c .before .before .before .before .pre .1) (c .before .before .if1 .taken)))
+returns c = c .digit .ensures ∙ low-one _ ∙ ap (λ (x : Bytes). lowNumber (numberOf x)) (sym (slice-one (c .before .before .before .before .args .text .now) (c .before .before .before .before .args .at) (c .before .before .before .before .args .end) (c .before .before .before .before .pre .1) (omega (arith, c .before .before .if1 .taken))))
 
 sub-if2 : tie.Need-sub-if2
 sub-if2 c = omega arith
 
 returns-2 : tie.Need-returns-2
-returns-2 c = low-long _ (λ e. c .before .if1 .left (sym (slice-size (c .before .before .before .args .text .now) (c .before .before .before .args .at) (c .before .before .before .args .end) (c .before .before .before .pre .1)) ∙ e)) (λ e. c .if2 .taken (sym (slice-size (c .before .before .before .args .text .now) (c .before .before .before .args .at) (c .before .before .before .args .end) (c .before .before .before .pre .1)) ∙ e))
+returns-2 c = low-long _ (λ e. omega (arith, e, slice-size (c .before .before .before .args .text .now) (c .before .before .before .args .at) (c .before .before .before .args .end) (c .before .before .before .pre .1), c .before .if1 .left)) (λ e. omega (arith, e, slice-size (c .before .before .before .args .text .now) (c .before .before .before .args .at) (c .before .before .before .args .end) (c .before .before .before .pre .1), c .if2 .taken))
 
 shared-slice-read-digit-2 : tie.Need-shared-slice-read-digit-2
 shared-slice-read-digit-2 c = omega arith
@@ -45,13 +45,13 @@ digit-requires-3 : tie.Need-digit-requires-3
 digit-requires-3 c κs = search needs
 
 returns-3 : tie.Need-returns-3
-returns-3 c = two-none _ _ (inl (sym (c .before .before .before .digit2 .ensures) ∙ c .if3 .taken)) ∙ ap (λ (x : Bytes). lowNumber (numberOf x)) (sym (slice-two (c .before .before .before .before .before .before .before .before .args .text .now) (c .before .before .before .before .before .before .before .before .args .at) (c .before .before .before .before .before .before .before .before .args .end) (c .before .before .before .before .before .before .before .before .pre .1) (c .before .before .before .before .before .if2 .left)))
+returns-3 c = two-none _ _ (inl (omega (arith, c .before .before .before .digit2 .ensures, c .if3 .taken))) ∙ ap (λ (x : Bytes). lowNumber (numberOf x)) (sym (slice-two (c .before .before .before .before .before .before .before .before .args .text .now) (c .before .before .before .before .before .before .before .before .args .at) (c .before .before .before .before .before .before .before .before .args .end) (c .before .before .before .before .before .before .before .before .pre .1) (omega (arith, c .before .before .before .before .before .if2 .left))))
 
 returns-4 : tie.Need-returns-4
-returns-4 c = two-none _ _ (inr (inl (omega (arith, c .before .before .before .before .digit2 .ensures, c .if4 .taken)))) ∙ ap (λ (x : Bytes). lowNumber (numberOf x)) (sym (slice-two (c .before .before .before .before .before .before .before .before .before .args .text .now) (c .before .before .before .before .before .before .before .before .before .args .at) (c .before .before .before .before .before .before .before .before .before .args .end) (c .before .before .before .before .before .before .before .before .before .pre .1) (c .before .before .before .before .before .before .if2 .left)))
+returns-4 c = two-none _ _ (inr (inl (omega (arith, c .before .before .before .before .digit2 .ensures, c .if4 .taken)))) ∙ ap (λ (x : Bytes). lowNumber (numberOf x)) (sym (slice-two (c .before .before .before .before .before .before .before .before .before .args .text .now) (c .before .before .before .before .before .before .before .before .before .args .at) (c .before .before .before .before .before .before .before .before .before .args .end) (c .before .before .before .before .before .before .before .before .before .pre .1) (omega (arith, c .before .before .before .before .before .before .if2 .left))))
 
 returns-5 : tie.Need-returns-5
-returns-5 c = two-none _ _ (inr (inr (omega (arith, c .before .before .before .digit3 .ensures, c .if5 .taken)))) ∙ ap (λ (x : Bytes). lowNumber (numberOf x)) (sym (slice-two (c .before .before .before .before .before .before .before .before .before .before .args .text .now) (c .before .before .before .before .before .before .before .before .before .before .args .at) (c .before .before .before .before .before .before .before .before .before .before .args .end) (c .before .before .before .before .before .before .before .before .before .before .pre .1) (c .before .before .before .before .before .before .before .if2 .left)))
+returns-5 c = two-none _ _ (inr (inr (omega (arith, c .before .before .before .digit3 .ensures, c .if5 .taken)))) ∙ ap (λ (x : Bytes). lowNumber (numberOf x)) (sym (slice-two (c .before .before .before .before .before .before .before .before .before .before .args .text .now) (c .before .before .before .before .before .before .before .before .before .before .args .at) (c .before .before .before .before .before .before .before .before .before .before .args .end) (c .before .before .before .before .before .before .before .before .before .before .pre .1) (omega (arith, c .before .before .before .before .before .before .before .if2 .left))))
 
 mul-result : tie.Need-mul-result
 mul-result c = omega arith
@@ -60,7 +60,7 @@ add-result : tie.Need-add-result
 add-result c = omega arith
 
 returns-6 : tie.Need-returns-6
-returns-6 c = ap₂ (λ (x y : ℕ). 10 * x + y) (c .before .before .before .before .before .digit2 .ensures) (c .before .before .before .digit3 .ensures) ∙ two-some _ _ (λ e. c .before .before .if3 .left (c .before .before .before .before .before .digit2 .ensures ∙ e)) (omega (arith, c .before .before .before .before .before .digit2 .ensures, c .before .if4 .left)) (omega (arith, c .before .before .before .digit3 .ensures, c .if5 .left)) ∙ ap (λ (x : Bytes). lowNumber (numberOf x)) (sym (slice-two (c .before .before .before .before .before .before .before .before .before .before .args .text .now) (c .before .before .before .before .before .before .before .before .before .before .args .at) (c .before .before .before .before .before .before .before .before .before .before .args .end) (c .before .before .before .before .before .before .before .before .before .before .pre .1) (c .before .before .before .before .before .before .before .if2 .left)))
+returns-6 c = ap₂ (λ (x y : ℕ). 10 * x + y) (c .before .before .before .before .before .digit2 .ensures) (c .before .before .before .digit3 .ensures) ∙ two-some _ _ (λ e. omega (arith, e, c .before .before .before .before .before .digit2 .ensures, c .before .before .if3 .left)) (omega (arith, c .before .before .before .before .before .digit2 .ensures, c .before .if4 .left)) (omega (arith, c .before .before .before .digit3 .ensures, c .if5 .left)) ∙ ap (λ (x : Bytes). lowNumber (numberOf x)) (sym (slice-two (c .before .before .before .before .before .before .before .before .before .before .args .text .now) (c .before .before .before .before .before .before .before .before .before .before .args .at) (c .before .before .before .before .before .before .before .before .before .before .args .end) (c .before .before .before .before .before .before .before .before .before .before .pre .1) (omega (arith, c .before .before .before .before .before .before .before .if2 .left))))
 
 pub number-spec : {M : Type 1} → statement M
 number-spec =

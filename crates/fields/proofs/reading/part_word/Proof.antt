@@ -19,7 +19,7 @@ exact-requires : tie.Need-exact-requires
 exact-requires c κs = search needs
 
 returns : tie.Need-returns
-returns c = c .exact .ensures ∙ word-exact (c .before .before .before .before .args .sets) _ _ (slice-one (c .before .before .before .before .args .text .now) (c .before .before .before .before .args .at) (c .before .before .before .before .args .end) (c .before .before .before .before .pre .1 .0) (c .before .before .if1 .taken))
+returns c = c .exact .ensures ∙ word-exact (c .before .before .before .before .args .sets) _ _ (slice-one (c .before .before .before .before .args .text .now) (c .before .before .before .before .args .at) (c .before .before .before .before .args .end) (c .before .before .before .before .pre .1 .0) (omega (arith, c .before .before .if1 .taken)))
 
 slice-aggregate-is-word : tie.Need-slice-aggregate-is-word
 slice-aggregate-is-word c = search needs
@@ -43,7 +43,7 @@ sub-if4 : tie.Need-sub-if4
 sub-if4 c = omega arith
 
 returns-4 : tie.Need-returns-4
-returns-4 c = word-short (c .before .before .before .before .before .before .before .before .before .args .sets) (slice (c .before .before .before .before .before .before .before .before .before .args .at) (c .before .before .before .before .before .before .before .before .before .args .end) (c .before .before .before .before .before .before .before .before .before .args .text .now)) (sym (c .before .before .before .before .before .is-word .ensures) ∙ c .before .before .before .before .if2 .left) (sym (c .before .before .is-word2 .ensures) ∙ c .before .if3 .left) (λ e. c .before .before .before .before .before .before .before .if1 .left (sym (slice-size (c .before .before .before .before .before .before .before .before .before .args .text .now) (c .before .before .before .before .before .before .before .before .before .args .at) (c .before .before .before .before .before .before .before .before .before .args .end) (c .before .before .before .before .before .before .before .before .before .pre .1 .0)) ∙ e)) (omega (arith, slice-size (c .before .before .before .before .before .before .before .before .before .args .text .now) (c .before .before .before .before .before .before .before .before .before .args .at) (c .before .before .before .before .before .before .before .before .before .args .end) (c .before .before .before .before .before .before .before .before .before .pre .1 .0), c .if4 .taken))
+returns-4 c = word-short (c .before .before .before .before .before .before .before .before .before .args .sets) (slice (c .before .before .before .before .before .before .before .before .before .args .at) (c .before .before .before .before .before .before .before .before .before .args .end) (c .before .before .before .before .before .before .before .before .before .args .text .now)) (sym (c .before .before .before .before .before .is-word .ensures) ∙ c .before .before .before .before .if2 .left) (sym (c .before .before .is-word2 .ensures) ∙ c .before .if3 .left) (λ e. omega (arith, e, slice-size (c .before .before .before .before .before .before .before .before .before .args .text .now) (c .before .before .before .before .before .before .before .before .before .args .at) (c .before .before .before .before .before .before .before .before .before .args .end) (c .before .before .before .before .before .before .before .before .before .pre .1 .0), c .before .before .before .before .before .before .before .if1 .left)) (omega (arith, slice-size (c .before .before .before .before .before .before .before .before .before .args .text .now) (c .before .before .before .before .before .before .before .before .before .args .at) (c .before .before .before .before .before .before .before .before .before .args .end) (c .before .before .before .before .before .before .before .before .before .pre .1 .0), c .if4 .taken))
 
 add-is-word : tie.Need-add-is-word
 add-is-word c = omega (arith, c .if4 .left)
@@ -67,10 +67,10 @@ add-result : tie.Need-add-result
 add-result c = omega (arith, c .if6 .taken)
 
 returns-6 : tie.Need-returns-6
-returns-6 c = word-sub (c .before .before .before .before .before .before .before .before .before .before .before .before .before .before .args .sets) (slice (c .before .before .before .before .before .before .before .before .before .before .before .before .before .before .args .at) (c .before .before .before .before .before .before .before .before .before .before .before .before .before .before .args .end) (c .before .before .before .before .before .before .before .before .before .before .before .before .before .before .args .text .now)) (slice (c .before .before .before .before .before .before .before .before .before .before .before .before .before .before .args .at) (c .before .before .before .before .before .before .before .before .before .before .before .before .before .before .args .at + 3) (c .before .before .before .before .before .before .before .before .before .before .before .before .before .before .args .text .now)) (slice (c .before .before .before .before .before .before .before .before .before .before .before .before .before .before .args .at + 3) (c .before .before .before .before .before .before .before .before .before .before .before .before .before .before .args .end) (c .before .before .before .before .before .before .before .before .before .before .before .before .before .before .args .text .now)) (slice-cut (c .before .before .before .before .before .before .before .before .before .before .before .before .before .before .args .text .now) (c .before .before .before .before .before .before .before .before .before .before .before .before .before .before .args .at) (c .before .before .before .before .before .before .before .before .before .before .before .before .before .before .args .at + 3) (c .before .before .before .before .before .before .before .before .before .before .before .before .before .before .args .end) (omega arith) (omega (arith, c .before .before .before .before .before .if4 .left)) (c .before .before .before .before .before .before .before .before .before .before .before .before .before .before .pre .1 .0)) (slice-size (c .before .before .before .before .before .before .before .before .before .before .before .before .before .before .args .text .now) (c .before .before .before .before .before .before .before .before .before .before .before .before .before .before .args .at) (c .before .before .before .before .before .before .before .before .before .before .before .before .before .before .args .at + 3) (omega (arith, c .before .before .before .before .before .if4 .left)) ∙ omega arith) (sym (c .before .before .before .before .before .before .before .before .before .before .is-word .ensures) ∙ c .before .before .before .before .before .before .before .before .before .if2 .left) (sym (c .before .before .before .before .before .before .before .is-word2 .ensures) ∙ c .before .before .before .before .before .before .if3 .left) (passed (c .before .before .before .is-word3 .ensures) (c .before .before .if5 .left)) (c .before .number .result) (c .before .number .ensures) (c .before .before .before .before .before .before .before .before .before .before .before .before .before .before .pre .1 .1) (c .if6 .taken)
+returns-6 c = word-sub (c .before .before .before .before .before .before .before .before .before .before .before .before .before .before .args .sets) (slice (c .before .before .before .before .before .before .before .before .before .before .before .before .before .before .args .at) (c .before .before .before .before .before .before .before .before .before .before .before .before .before .before .args .end) (c .before .before .before .before .before .before .before .before .before .before .before .before .before .before .args .text .now)) (slice (c .before .before .before .before .before .before .before .before .before .before .before .before .before .before .args .at) (c .before .before .before .before .before .before .before .before .before .before .before .before .before .before .args .at + 3) (c .before .before .before .before .before .before .before .before .before .before .before .before .before .before .args .text .now)) (slice (c .before .before .before .before .before .before .before .before .before .before .before .before .before .before .args .at + 3) (c .before .before .before .before .before .before .before .before .before .before .before .before .before .before .args .end) (c .before .before .before .before .before .before .before .before .before .before .before .before .before .before .args .text .now)) (slice-cut (c .before .before .before .before .before .before .before .before .before .before .before .before .before .before .args .text .now) (c .before .before .before .before .before .before .before .before .before .before .before .before .before .before .args .at) (c .before .before .before .before .before .before .before .before .before .before .before .before .before .before .args .at + 3) (c .before .before .before .before .before .before .before .before .before .before .before .before .before .before .args .end) (omega arith) (omega (arith, c .before .before .before .before .before .if4 .left)) (c .before .before .before .before .before .before .before .before .before .before .before .before .before .before .pre .1 .0)) (slice-size (c .before .before .before .before .before .before .before .before .before .before .before .before .before .before .args .text .now) (c .before .before .before .before .before .before .before .before .before .before .before .before .before .before .args .at) (c .before .before .before .before .before .before .before .before .before .before .before .before .before .before .args .at + 3) (omega (arith, c .before .before .before .before .before .if4 .left)) ∙ omega arith) (sym (c .before .before .before .before .before .before .before .before .before .before .is-word .ensures) ∙ c .before .before .before .before .before .before .before .before .before .if2 .left) (sym (c .before .before .before .before .before .before .before .is-word2 .ensures) ∙ c .before .before .before .before .before .before .if3 .left) (passed (c .before .before .before .is-word3 .ensures) (c .before .before .if5 .left)) (c .before .number .result) (c .before .number .ensures) (c .before .before .before .before .before .before .before .before .before .before .before .before .before .before .pre .1 .1) (omega (arith, c .if6 .taken))
 
 returns-7 : tie.Need-returns-7
-returns-7 c = word-past (c .before .before .before .before .before .before .before .before .before .before .before .before .before .before .args .sets) (slice (c .before .before .before .before .before .before .before .before .before .before .before .before .before .before .args .at) (c .before .before .before .before .before .before .before .before .before .before .before .before .before .before .args .end) (c .before .before .before .before .before .before .before .before .before .before .before .before .before .before .args .text .now)) (slice (c .before .before .before .before .before .before .before .before .before .before .before .before .before .before .args .at) (c .before .before .before .before .before .before .before .before .before .before .before .before .before .before .args .at + 3) (c .before .before .before .before .before .before .before .before .before .before .before .before .before .before .args .text .now)) (slice (c .before .before .before .before .before .before .before .before .before .before .before .before .before .before .args .at + 3) (c .before .before .before .before .before .before .before .before .before .before .before .before .before .before .args .end) (c .before .before .before .before .before .before .before .before .before .before .before .before .before .before .args .text .now)) (slice-cut (c .before .before .before .before .before .before .before .before .before .before .before .before .before .before .args .text .now) (c .before .before .before .before .before .before .before .before .before .before .before .before .before .before .args .at) (c .before .before .before .before .before .before .before .before .before .before .before .before .before .before .args .at + 3) (c .before .before .before .before .before .before .before .before .before .before .before .before .before .before .args .end) (omega arith) (omega (arith, c .before .before .before .before .before .if4 .left)) (c .before .before .before .before .before .before .before .before .before .before .before .before .before .before .pre .1 .0)) (slice-size (c .before .before .before .before .before .before .before .before .before .before .before .before .before .before .args .text .now) (c .before .before .before .before .before .before .before .before .before .before .before .before .before .before .args .at) (c .before .before .before .before .before .before .before .before .before .before .before .before .before .before .args .at + 3) (omega (arith, c .before .before .before .before .before .if4 .left)) ∙ omega arith) (sym (c .before .before .before .before .before .before .before .before .before .before .is-word .ensures) ∙ c .before .before .before .before .before .before .before .before .before .if2 .left) (sym (c .before .before .before .before .before .before .before .is-word2 .ensures) ∙ c .before .before .before .before .before .before .if3 .left) (passed (c .before .before .before .is-word3 .ensures) (c .before .before .if5 .left)) (c .before .number .result) (c .before .number .ensures) (c .before .before .before .before .before .before .before .before .before .before .before .before .before .before .pre .1 .1) (c .if6 .left)
+returns-7 c = word-past (c .before .before .before .before .before .before .before .before .before .before .before .before .before .before .args .sets) (slice (c .before .before .before .before .before .before .before .before .before .before .before .before .before .before .args .at) (c .before .before .before .before .before .before .before .before .before .before .before .before .before .before .args .end) (c .before .before .before .before .before .before .before .before .before .before .before .before .before .before .args .text .now)) (slice (c .before .before .before .before .before .before .before .before .before .before .before .before .before .before .args .at) (c .before .before .before .before .before .before .before .before .before .before .before .before .before .before .args .at + 3) (c .before .before .before .before .before .before .before .before .before .before .before .before .before .before .args .text .now)) (slice (c .before .before .before .before .before .before .before .before .before .before .before .before .before .before .args .at + 3) (c .before .before .before .before .before .before .before .before .before .before .before .before .before .before .args .end) (c .before .before .before .before .before .before .before .before .before .before .before .before .before .before .args .text .now)) (slice-cut (c .before .before .before .before .before .before .before .before .before .before .before .before .before .before .args .text .now) (c .before .before .before .before .before .before .before .before .before .before .before .before .before .before .args .at) (c .before .before .before .before .before .before .before .before .before .before .before .before .before .before .args .at + 3) (c .before .before .before .before .before .before .before .before .before .before .before .before .before .before .args .end) (omega arith) (omega (arith, c .before .before .before .before .before .if4 .left)) (c .before .before .before .before .before .before .before .before .before .before .before .before .before .before .pre .1 .0)) (slice-size (c .before .before .before .before .before .before .before .before .before .before .before .before .before .before .args .text .now) (c .before .before .before .before .before .before .before .before .before .before .before .before .before .before .args .at) (c .before .before .before .before .before .before .before .before .before .before .before .before .before .before .args .at + 3) (omega (arith, c .before .before .before .before .before .if4 .left)) ∙ omega arith) (sym (c .before .before .before .before .before .before .before .before .before .before .is-word .ensures) ∙ c .before .before .before .before .before .before .before .before .before .if2 .left) (sym (c .before .before .before .before .before .before .before .is-word2 .ensures) ∙ c .before .before .before .before .before .before .if3 .left) (passed (c .before .before .before .is-word3 .ensures) (c .before .before .if5 .left)) (c .before .number .result) (c .before .number .ensures) (c .before .before .before .before .before .before .before .before .before .before .before .before .before .before .pre .1 .1) (omega (arith, c .if6 .left))
 
 pub part-word-spec : {M : Type 1} → statement M
 part-word-spec =

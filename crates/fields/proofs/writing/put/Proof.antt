@@ -18,7 +18,7 @@ returns : tie.Need-returns
 returns c = laid-in (c .before .args .text .now) (c .before .args .at) (c .before .args .byte)
 
 returns-2 : tie.Need-returns-2
-returns-2 c = laid-out (c .before .args .text .now) (c .before .args .at) (c .before .args .byte) (c .if1 .left)
+returns-2 c = laid-out (c .before .args .text .now) (c .before .args .at) (c .before .args .byte) (omega (arith, c .if1 .left))
 
 pub put-spec : {M : Type 1} → statement M
 put-spec = tie.close (tie.spec add-next slice-write-text same-length returns returns-2)

@@ -1,8 +1,12 @@
 -- `fields::writing::put_field` meets its contract, case by case.
 use mathlib.Core.Path.{sym, ap}
+use mathlib.Core.List.{[], _∷_}
+use native.Mathlib.Omega.{arith}
+use lib.ListN.{length}
+use Rattle.defs.specs.declared.ruledef.Part.{Part}
 use borrow.Author.Needs.{needs}
 use Rattle.printing.specs.Listing.{subWord, decimal, partField}
-use Rattle.fields.proofs.Laying.{laid-then, laid-as, ready-as, ready-front, ready-back}
+use Rattle.fields.proofs.Laying.{laid-then, laid-as, ready-short, ready-as, ready-front, ready-back}
 use Rattle.fields.proofs.Parts.{nested-low}
 use Rattle.fields.proofs.writing.put_field.Statement.{statement}
 use Rattle.fields.proofs.writing.put_field.Tie as tie
@@ -11,7 +15,7 @@ enum-known-part : tie.Need-enum-known-part
 enum-known-part c = search needs
 
 put-requires : tie.Need-put-requires
-put-requires c κs = ready-as (ap partField (c .before .before .part .given .1)) (c .before .before .before .before .before .pre .1)
+put-requires c κs = ready-short (partField (c .before .before .before .before .before .args .part)) (_ ∷ []) (omega (arith, ap (λ (p : Part). length (partField p)) (c .before .before .part .given .1))) (c .before .before .before .before .before .pre .1)
 
 enum-told : tie.Need-enum-told
 enum-told c = search needs
@@ -20,7 +24,7 @@ slice-aggregate-put-word : tie.Need-slice-aggregate-put-word
 slice-aggregate-put-word c = search needs
 
 put-word-requires : tie.Need-put-word-requires
-put-word-requires c κs = ready-as (ap partField (c .before .before .enum-told .given .1)) (c .before .before .before .before .before .pre .1)
+put-word-requires c κs = ready-short (partField (c .before .before .before .before .before .args .part)) _ (omega (arith, ap (λ (p : Part). length (partField p)) (c .before .before .enum-told .given .1))) (c .before .before .before .before .before .pre .1)
 
 enum-told-2 : tie.Need-enum-told-2
 enum-told-2 c = search needs
@@ -29,7 +33,7 @@ slice-aggregate-put-word-2 : tie.Need-slice-aggregate-put-word-2
 slice-aggregate-put-word-2 c = search needs
 
 put-word-requires-2 : tie.Need-put-word-requires-2
-put-word-requires-2 c κs = ready-as (ap partField (c .before .before .enum-told2 .given .1)) (c .before .before .before .before .before .pre .1)
+put-word-requires-2 c κs = ready-short (partField (c .before .before .before .before .before .args .part)) _ (omega (arith, ap (λ (p : Part). length (partField p)) (c .before .before .enum-told2 .given .1))) (c .before .before .before .before .before .pre .1)
 
 enum-known-part-2 : tie.Need-enum-known-part-2
 enum-known-part-2 c = search needs

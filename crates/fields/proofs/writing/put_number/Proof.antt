@@ -1,9 +1,12 @@
 -- `fields::writing::put_number` meets its contract.
-use mathlib.Core.Path.{sym}
+use mathlib.Core.Path.{sym, ap}
+use native.Mathlib.Omega.{arith}
+use lib.ListN.{length}
+use Rattle.printing.specs.Listing.{decimal}
 use mathlib.Core.List.{[], _∷_}
 use borrow.Author.Needs.{needs}
 use Rattle.printing.proofs.Decimals.{decimal-one, decimal-two}
-use Rattle.fields.proofs.Laying.{laid-then, laid-as, ready-as, ready-front, ready-back}
+use Rattle.fields.proofs.Laying.{laid-then, laid-as, ready-short}
 use Rattle.fields.proofs.writing.put_number.Statement.{statement}
 use Rattle.fields.proofs.writing.put_number.Tie as tie
 
@@ -14,13 +17,13 @@ cast-put : tie.Need-cast-put
 cast-put c = search needs
 
 put-requires : tie.Need-put-requires
-put-requires c κs = ready-as (decimal-one (c .before .before .before .args .number) (c .before .if1 .taken)) (c .before .before .before .pre .1)
+put-requires c κs = ready-short (decimal (c .before .before .before .args .number)) (_ ∷ []) (omega (arith, ap length (decimal-one (c .before .before .before .args .number) (omega (arith, c .before .if1 .taken))))) (c .before .before .before .pre .1)
 
 same-length : tie.Need-same-length
 same-length c = search needs
 
 returns : tie.Need-returns
-returns c = laid-as (sym (decimal-one (c .before .before .before .before .before .before .args .number) (c .before .before .before .before .if1 .taken))) (c .before .before .put .ensures)
+returns c = laid-as (sym (decimal-one (c .before .before .before .before .before .before .args .number) (omega (arith, c .before .before .before .before .if1 .taken)))) (c .before .before .put .ensures)
 
 add-put-2 : tie.Need-add-put-2
 add-put-2 c = search needs
@@ -29,7 +32,7 @@ cast-put-2 : tie.Need-cast-put-2
 cast-put-2 c = search needs
 
 put-requires-2 : tie.Need-put-requires-2
-put-requires-2 c κs = ready-front (_ ∷ []) (_ ∷ []) (ready-as (decimal-two (c .before .before .before .args .number) (c .before .if1 .left) (c .before .before .before .pre .0)) (c .before .before .before .pre .1))
+put-requires-2 c κs = ready-short (decimal (c .before .before .before .args .number)) (_ ∷ []) (omega (arith, ap length (decimal-two (c .before .before .before .args .number) (omega (arith, c .before .if1 .left)) (c .before .before .before .pre .0)))) (c .before .before .before .pre .1)
 
 add-put-3 : tie.Need-add-put-3
 add-put-3 c = search needs
@@ -38,13 +41,13 @@ cast-put-3 : tie.Need-cast-put-3
 cast-put-3 c = search needs
 
 put-requires-3 : tie.Need-put-requires-3
-put-requires-3 c κs = ready-back (_ ∷ []) (_ ∷ []) (ready-as (decimal-two (c .before .before .before .before .before .before .before .args .number) (c .before .before .before .before .before .if1 .left) (c .before .before .before .before .before .before .before .pre .0)) (c .before .before .before .before .before .before .before .pre .1)) (c .before .before .before .put2 .ensures)
+put-requires-3 c κs = record { small = omega (arith, c .before .before .before .before .before .before .before .pre .1 .small, c .before .before .before .put2 .ensures .to, ap length (decimal-two (c .before .before .before .before .before .before .before .args .number) (omega (arith, c .before .before .before .before .before .if1 .left)) (c .before .before .before .before .before .before .before .pre .0))) }
 
 same-length-2 : tie.Need-same-length-2
 same-length-2 c = search needs
 
 returns-2 : tie.Need-returns-2
-returns-2 c = laid-as (sym (decimal-two (c .before .before .before .before .before .before .before .before .before .before .args .number) (c .before .before .before .before .before .before .before .before .if1 .left) (c .before .before .before .before .before .before .before .before .before .before .pre .0))) (laid-then (c .before .before .before .before .before .before .put2 .ensures) (c .before .before .put3 .ensures))
+returns-2 c = laid-as (sym (decimal-two (c .before .before .before .before .before .before .before .before .before .before .args .number) (omega (arith, c .before .before .before .before .before .before .before .before .if1 .left)) (c .before .before .before .before .before .before .before .before .before .before .pre .0))) (laid-then (c .before .before .before .before .before .before .put2 .ensures) (c .before .before .put3 .ensures))
 
 pub put-number-spec : {M : Type 1} → statement M
 put-number-spec =

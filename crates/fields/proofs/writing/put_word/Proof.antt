@@ -19,7 +19,7 @@ shared-slice-read-put : tie.Need-shared-slice-read-put Inv-loop μ-loop
 shared-slice-read-put c = omega arith
 
 put-requires : tie.Need-put-requires Inv-loop μ-loop
-put-requires c κs = laying-ready _ _ _ (word-next (c .before .before .before .before .before .before .args .word .now) (c .before .before .before .loop .i) (c .before .before .loop-test .taken)) (c .before .before .before .before .before .before .pre) (c .before .before .before .loop .inv)
+put-requires c κs = laying-ready _ _ _ (word-next (c .before .before .before .before .before .before .args .word .now) (c .before .before .before .loop .i) (omega (arith, c .before .before .loop-test .taken))) (c .before .before .before .before .before .before .pre) (c .before .before .before .loop .inv)
 
 add-i : tie.Need-add-i Inv-loop μ-loop
 add-i c = omega arith
@@ -28,13 +28,13 @@ loop-less : tie.Need-loop-less Inv-loop μ-loop
 loop-less c = omega arith
 
 loop-again : tie.Need-loop-again Inv-loop μ-loop
-loop-again c = laying-next _ _ (word-next (c .before .before .before .before .before .before .before .before .before .args .word .now) (c .before .before .before .before .before .before .loop .i) (c .before .before .before .before .before .loop-test .taken)) (c .before .before .before .before .before .before .loop .inv) (c .before .before .put .ensures)
+loop-again c = laying-next _ _ (word-next (c .before .before .before .before .before .before .before .before .before .args .word .now) (c .before .before .before .before .before .before .loop .i) (omega (arith, c .before .before .before .before .before .loop-test .taken))) (c .before .before .before .before .before .before .loop .inv) (c .before .before .put .ensures)
 
 same-length : tie.Need-same-length Inv-loop μ-loop
 same-length c = c .before .loop .inv .long
 
 returns : tie.Need-returns Inv-loop μ-loop
-returns c = laying-done _ (word-over (c .before .before .before .before .args .word .now) (c .before .loop .i) (c .loop-test .left)) (c .before .loop .inv)
+returns c = laying-done _ (word-over (c .before .before .before .before .args .word .now) (c .before .loop .i) (omega (arith, c .loop-test .left))) (c .before .loop .inv)
 
 pub put-word-spec : {M : Type 1} → statement M
 put-word-spec =
