@@ -43,7 +43,7 @@ fn good(text: &[u8]) -> Vec<u16> {
 fn table_t_both_ways() {
     assert_eq!(good(&text(T_SHOWN)), T);
     assert_eq!(ReadAnswer::Read { words: 29 }.number(), 0);
-    assert_eq!(WriteAnswer::Written { bytes: 103 }.number(), 0);
+    assert_eq!(WriteAnswer::Written { bytes: 87 }.number(), 0);
 }
 
 /// Parts in another order and spare ones: the listing has neither, and its table is packed.

@@ -1,8 +1,9 @@
 //! Both calls on tables as text beside the model, on random input: listings with a few bytes, lines
 //! or fields changed, and table words with spare parts, shared ones and parts in another order.
 
-use crate::lent::{read, write};
+use crate::lent::{read, write, Call};
 use crate::model::{told_of_table, told_of_text, Data, Part, Rule};
+use crate::tables::sheet;
 
 /// The same numbers in every run.
 struct Random(u64);
@@ -224,7 +225,8 @@ fn tables_like_the_model() {
     assert!(accepted.min(refused) > 5_000, "{accepted}, {refused}");
 }
 
-/// Text to words and back, and words to text and back, with the data that the model finds in them.
+/// Text to words and back, and words to text and back, with the data that the model finds in them. A
+/// table and what it comes back as answer a line alike.
 #[test]
 fn round_trips() {
     let mut random = Random(0x2545_F491_4F6C_DD1D);
@@ -242,5 +244,22 @@ fn round_trips() {
         assert_eq!(words, data.pack());
         let (_, again) = write(&words, 4096);
         assert_eq!(again, text);
+
+        let line: Vec<u8> = (0..random.below(6))
+            .map(|_| random.pick(b"!09:aAzZws+"))
+            .collect();
+        let call = Call {
+            table: &table,
+            line: &line,
+            sheet: &sheet(line.len(), &[(0, line.len(), line.len() as u8)]),
+            budget: 10_000,
+            room: 1024,
+        };
+        let packed = Call {
+            table: &words,
+            ..call
+        };
+        assert_eq!(call.scan(), packed.scan());
+        assert_eq!(call.lookup(), packed.lookup());
     }
 }
