@@ -6,9 +6,10 @@
 mod cases;
 #[path = "../oracle/driver/notation.rs"]
 mod notation;
-// The crate in rust/ has a layout of its own.
+// The crate in rust/ has a layout of its own, and functions that are not timed.
 #[path = "../rust/src/raw.rs"]
 #[rustfmt::skip]
+#[allow(dead_code)]
 mod raw;
 
 use cases::Case;

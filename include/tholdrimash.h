@@ -24,11 +24,12 @@
 extern "C" {
 #endif
 
-/* The numbers that the field `number` holds: of matching 0 to 9, of selection 0 and 10 to 14. Beside each stand the fields
- * that it returns.
+/* The numbers that the field `number` holds: of matching 0 to 9, of selection 0 and 10 to 14, of reading a table's text 0,
+ * 15 and 16, of writing it 0, 2 and 16. Beside each stand the fields that it returns.
  *
  * Matching judges table, line, sheet and budget in that order (2, 3, 4, 5); then comes whichever of 6, 7 and 8 the walk
- * meets first; then 1; then 9. Selection judges 10, 11, 12, 13, 14 in that order.
+ * meets first; then 1; then 9. Selection judges 10, 11, 12, 13, 14 in that order. Reading judges the text (15), writing the
+ * table (2), and then either the room for its result (16).
  */
 enum {
     THOLDRIMASH_MATCHED = 0,        /* visits; words: how many were written at the answer's start, the rest is unchanged */
@@ -47,10 +48,15 @@ enum {
     THOLDRIMASH_NONE_RESOLVED = 11, /* every outcome is unresolved or a failed constraint, or there is none */
     THOLDRIMASH_NONE_KNOWN = 12,    /* some outcome is resolved, but none has a size */
     THOLDRIMASH_TIED = 13,          /* two or more have the least size, on the last pass; count: how many */
-    THOLDRIMASH_NO_ROOM = 14        /* the choice is longer than its buffer; count: how many are chosen */
+    THOLDRIMASH_NO_ROOM = 14,       /* the choice is longer than its buffer; count: how many are chosen */
+
+    THOLDRIMASH_READ = 0,            /* words: how many were written at the start of `table`, the rest is unchanged */
+    THOLDRIMASH_WRITTEN = 0,         /* words: how many bytes were written at the start of `text`, the rest is unchanged */
+    THOLDRIMASH_BAD_TEXT = 15,       /* place: the first bad line, from 0; how many lines are ended if only the end is wrong */
+    THOLDRIMASH_RESULT_TOO_LONG = 16 /* the table's words, or the text's bytes, are more than the room lent for them */
 };
 
-/* What matching returns.
+/* What matching returns, and reading and writing a table's text, which make no visits.
  *
  * A visit is an arrival at a place in a rule's pattern: at each part that the walk comes to, and at the pattern's end. A
  * record is taken for each argument that the walk goes on with and for each match that it completes, and none is given back
@@ -110,6 +116,44 @@ tholdrimash_answer tholdrimash_lookup(const uint16_t *table, size_t table_len, c
  */
 tholdrimash_selection tholdrimash_select(uint32_t *outcomes, size_t outcomes_len, uint32_t last_pass, uint16_t *chosen,
                                          size_t chosen_len);
+
+/* Tables as text. A listing is a table's rulesets and rules, one a line:
+ *
+ *         ruleset top
+ *         ruleset nested
+ *         rule 0 m o v ws expr
+ *         rule 0 m o v ws sub1
+ *         rule 1 p
+ *         rule 1 q
+ *
+ * with a tab (byte 9) in place of each space. Tabs part the fields, and byte 10 ends each line, the last one too. First come
+ * all rulesets, one line each: `ruleset`, then `top` or `nested`. Then come all rules in the table's order, one line each:
+ * `rule`, its ruleset's number, then a field for each part: the character itself for an exact part (one byte, 33 to 126
+ * except 59), `ws` for whitespace, `expr` for an expression, `sub` and directly after it a ruleset's number for a nested
+ * rule. A rule without parts ends after its ruleset's number. Numbers are decimal without leading zeros. Words are compared
+ * byte for byte, and nothing else may stand in a listing: no spaces, no quotes around a field, no comment, no empty line, no
+ * tab or byte 13 at a line's end.
+ *
+ * The table's limits hold: 1 to 32 rulesets, at most 512 rules, 64 parts and 8 parameters a rule, 8,192 parts together;
+ * rules in nondecreasing ruleset order; each ruleset's number below the number of rulesets. Rulesets and rules within them
+ * have one listing, and no others have the same. A listing has at most 53,728 bytes and a table at most 9,763 words, so that
+ * much room is always enough.
+ */
+
+/* Reads a listing. The table is packed: the parts stand in the order of the rules, and none is spare.
+ *
+ * Any other text is 15. Its first bad line is the first ended one up to which, itself included, the lines begin no listing.
+ * If there is none, only the end is wrong: bytes stand after the last line end, or there is no line at all. Then the place is
+ * the number of ended lines. It is at most 544.
+ *
+ * A text that is read and then written again has the same bytes.
+ */
+tholdrimash_answer tholdrimash_read_table(const uint8_t *text, size_t text_len, uint16_t *table, size_t table_len);
+
+/* Writes a table's listing. It says nothing of spare parts, nor of where the others stand: a table that is written and then
+ * read again has the same rulesets and rules, packed. Matching and lookup answer alike by both, in every field and word.
+ */
+tholdrimash_answer tholdrimash_write_table(const uint16_t *table, size_t table_len, uint8_t *text, size_t text_len);
 
 #ifdef __cplusplus
 }

@@ -1,5 +1,5 @@
 /* Calls every function that include/tholdrimash.h declares: bench cases 1, 2, 10, 11 and 12 of document 01, each number
- * from 0 to 14 by its name, and the examples of docs/MANUAL.md in its order and notation. After a call it looks at all
+ * from 0 to 16 by its name, and the examples of docs/MANUAL.md in its order and notation. After a call it looks at all
  * that was lent and at what stands around it. It writes one line, and ends with 1 if a check failed.
  */
 #include "tholdrimash.h"
@@ -114,6 +114,42 @@ static void selects(const char *name, const uint32_t *outcomes, size_t len, uint
     give_back(chosen);
 }
 
+/* A text read as a table gives these fields, and on number 0 these words. */
+static void reads(const char *name, const void *given, size_t len, size_t room, tholdrimash_answer expected,
+                  const uint16_t *words) {
+    size_t written = expected.number == THOLDRIMASH_READ ? expected.words : 0;
+    lent text = lend(given, len), table = lend(NULL, room * sizeof *words);
+
+    tholdrimash_answer told = tholdrimash_read_table(at(text), len, at(table), room);
+    check(name, "number", told.number == expected.number);
+    check(name, "visits", told.visits == 0);
+    check(name, "words", told.words == expected.words);
+    check(name, "place", told.place == expected.place);
+    check(name, "text", unchanged(text));
+    check(name, "table", holds(table, words, written * sizeof *words));
+
+    give_back(text);
+    give_back(table);
+}
+
+/* A table written as text gives these fields, and on number 0 these bytes. */
+static void writes(const char *name, const uint16_t *given, size_t len, size_t room, tholdrimash_answer expected,
+                   const void *bytes) {
+    size_t written = expected.number == THOLDRIMASH_WRITTEN ? expected.words : 0;
+    lent table = lend(given, len * sizeof *given), text = lend(NULL, room);
+
+    tholdrimash_answer told = tholdrimash_write_table(at(table), len, at(text), room);
+    check(name, "number", told.number == expected.number);
+    check(name, "visits", told.visits == 0);
+    check(name, "words", told.words == expected.words);
+    check(name, "place", told.place == 0);
+    check(name, "table", unchanged(table));
+    check(name, "text", holds(text, bytes, written));
+
+    give_back(table);
+    give_back(text);
+}
+
 /* Document 01's table T. */
 static const uint16_t t[] = {2,  4, 12,  0,   1,   0,   0,   5,   0,   5,   5,   1,   10,  1,  1,
                              11, 1, 109, 111, 118, 256, 257, 109, 111, 118, 256, 513, 112, 113};
@@ -167,6 +203,36 @@ static void on_t(void) {
           NULL);
     gives("no match, lookup", tholdrimash_lookup, c, (tholdrimash_answer){.number = THOLDRIMASH_NO_MATCH, .visits = 0},
           NULL);
+}
+
+static const char t_text[] = "ruleset\ttop\nruleset\tnested\nrule\t0\tm\to\tv\tws\texpr\nrule\t0\tm\to\tv\tws\tsub1\n"
+                             "rule\t1\tp\nrule\t1\tq\n";
+
+/* T's text and T's words, each from the other: in rooms that are larger, full, one short and none. */
+static void t_as_text(void) {
+    size_t len = sizeof t_text - 1;
+    const tholdrimash_answer read = {.number = THOLDRIMASH_READ, .words = LEN(t)},
+                             written = {.number = THOLDRIMASH_WRITTEN, .words = (uint32_t)len},
+                             too_long = {.number = THOLDRIMASH_RESULT_TOO_LONG};
+
+    reads("T's text", t_text, len, LEN(t) + 1, read, t);
+    reads("T's text, a room exactly full", t_text, len, LEN(t), read, t);
+    reads("T's text, a room one word short", t_text, len, LEN(t) - 1, too_long, NULL);
+    reads("T's text, no room", t_text, len, 0, too_long, NULL);
+    writes("T as text", t, LEN(t), len + 1, written, t_text);
+    writes("T as text, a room exactly full", t, LEN(t), len, written, t_text);
+    writes("T as text, a room one byte short", t, LEN(t), len - 1, too_long, NULL);
+    writes("T as text, no room", t, LEN(t), 0, too_long, NULL);
+
+    /* The text and the table are judged before the room. */
+    for (size_t room = 0; room < 2; room++) {
+        reads("T's text, not ended", t_text, len - 1, room * LEN(t),
+              (tholdrimash_answer){.number = THOLDRIMASH_BAD_TEXT, .place = 5}, NULL);
+        reads("no text", t_text, 0, room * LEN(t), (tholdrimash_answer){.number = THOLDRIMASH_BAD_TEXT}, NULL);
+        writes("T one word short", t, LEN(t) - 1, room * len, (tholdrimash_answer){.number = THOLDRIMASH_BAD_TABLE},
+               NULL);
+        writes("no table", t, 0, room * len, (tholdrimash_answer){.number = THOLDRIMASH_BAD_TABLE}, NULL);
+    }
 }
 
 /* Tables that an empty line is enough for. */
@@ -235,11 +301,15 @@ static void names(void) {
                                         THOLDRIMASH_TOO_LONG};
     static const uint32_t selection[] = {THOLDRIMASH_BAD_LIST, THOLDRIMASH_NONE_RESOLVED, THOLDRIMASH_NONE_KNOWN,
                                          THOLDRIMASH_TIED, THOLDRIMASH_NO_ROOM};
+    static const uint32_t text[] = {THOLDRIMASH_BAD_TEXT, THOLDRIMASH_RESULT_TOO_LONG};
     char version[16];
 
     for (uint32_t i = 0; i < LEN(matching); i++) check("names", "of matching", matching[i] == i);
     check("names", "of a choice", THOLDRIMASH_CHOSEN == 0);
     for (uint32_t i = 0; i < LEN(selection); i++) check("names", "of selection", selection[i] == LEN(matching) + i);
+    check("names", "of a table read", THOLDRIMASH_READ == 0);
+    check("names", "of a table written", THOLDRIMASH_WRITTEN == 0);
+    for (uint32_t i = 0; i < LEN(text); i++) check("names", "of text", text[i] == LEN(matching) + LEN(selection) + i);
     snprintf(version, sizeof version, "%d.%d.%d", THOLDRIMASH_VERSION_MAJOR, THOLDRIMASH_VERSION_MINOR,
              THOLDRIMASH_VERSION_PATCH);
     check("names", "version", strcmp(version, THOLDRIMASH_VERSION) == 0);
@@ -513,9 +583,117 @@ static void chooses(void) {
     }
 }
 
+/* Chapter 10: a text, as the manual shows it with a space for a tab and `|` for byte 10. */
+static size_t spell(char *text, const char *shown) {
+    size_t len = strlen(shown);
+    for (size_t i = 0; i < len; i++) text[i] = shown[i] == ' ' ? '\t' : shown[i] == '|' ? '\n' : shown[i];
+    return len;
+}
+
+/* A text with the words that it gives, or NULL and its first bad line. */
+typedef struct {
+    const char *shown, *words;
+    uint32_t line;
+} listing;
+
+/* The words that come back are the text again when they are written. */
+static void lists(listing l) {
+    char name[128], text[128];
+    uint16_t words[32];
+    size_t len = spell(text, l.shown), count = l.words ? numbers(words, l.words) : 0;
+
+    snprintf(name, sizeof name, "manual, text %s", l.shown);
+    if (!l.words) {
+        reads(name, text, len, LEN(words), (tholdrimash_answer){.number = THOLDRIMASH_BAD_TEXT, .place = l.line}, NULL);
+        return;
+    }
+    reads(name, text, len, count + 1, (tholdrimash_answer){.number = THOLDRIMASH_READ, .words = (uint32_t)count},
+          words);
+    writes(name, words, count, len + 1, (tholdrimash_answer){.number = THOLDRIMASH_WRITTEN, .words = (uint32_t)len},
+           text);
+}
+
+static void listings(void) {
+    static const listing texts[] = {
+        {"ruleset top|rule 0 n o p|", "1,1,3, 0, 0,0,3, 110,111,112", 0},
+        {"ruleset top|", "1,0,0, 0", 0},
+        {"ruleset nested|rule 0|", "1,1,0, 1, 0,0,0", 0},
+        {"ruleset top|rule 0 w s|", "1,1,2, 0, 0,0,2, 119,115", 0},
+        {"", NULL, 0},
+        {"ruleset top|rule 0 n o p", NULL, 1},
+        {"ruleset top|rule 0 n o p|;", NULL, 2},
+        {"Ruleset top|", NULL, 0},
+        {"ruleset|", NULL, 0},
+        {"rule 0 p|", NULL, 0},
+        {"ruleset top|rule 0 sub1|", NULL, 1},
+        {"ruleset top|rule 00 p|", NULL, 1},
+        {"ruleset top|ruleset nested|rule 0 sub01|", NULL, 2},
+        {"ruleset top|rule 4294967296|", NULL, 1},
+        {"ruleset top|rule 0 nop|", NULL, 1},
+        {"ruleset top|rule 0 ;|", NULL, 1},
+        {"ruleset top|rule 0 p |", NULL, 1},
+        {"ruleset top||rule 0 p|", NULL, 1},
+        {"ruleset top|rule 0 p|ruleset nested|", NULL, 2},
+        {"ruleset top|ruleset nested|rule 1 p|rule 0 q|", NULL, 3},
+        {"ruleset top|rule 0 nop|rule 0 ;|", NULL, 1},
+        {"ruleset top\r|rule 0 p\r|", NULL, 0},
+        {"ruleset top|rule 0 p\r|", NULL, 1},
+        {"ruleset top|rule 0 \"\"\"\"|", NULL, 1},
+    };
+    for (size_t i = 0; i < LEN(texts); i++) lists(texts[i]);
+}
+
+/* So many lines `ruleset top`, then so many `rule 0`: at the limit, and one over it. */
+static void lines(uint32_t rulesets, uint32_t rules, int good) {
+    static const char top[] = "ruleset\ttop\n", rule[] = "rule\t0\n";
+    static char text[33 * sizeof top + 513 * sizeof rule];
+    static uint16_t words[3 + 32 + 3 * 512];
+    size_t len = 0, count = 3 + rulesets + 3 * rules;
+    for (uint32_t i = 0; i < rulesets + rules; i++) {
+        const char *line = i < rulesets ? top : rule;
+        memcpy(text + len, line, strlen(line));
+        len += strlen(line);
+    }
+    if (!good) {
+        reads("lines over a limit", text, len, LEN(words),
+              (tholdrimash_answer){.number = THOLDRIMASH_BAD_TEXT, .place = rulesets + rules - 1}, NULL);
+        return;
+    }
+    memset(words, 0, sizeof words);
+    words[0] = (uint16_t)rulesets;
+    words[1] = (uint16_t)rules;
+    reads("lines at a limit", text, len, count,
+          (tholdrimash_answer){.number = THOLDRIMASH_READ, .words = (uint32_t)count}, words);
+    writes("lines at a limit", words, count, len,
+           (tholdrimash_answer){.number = THOLDRIMASH_WRITTEN, .words = (uint32_t)len}, text);
+}
+
+/* Parts in another order, and spare ones: the listing has neither, what is read again is packed, and both match alike.
+ */
+static void unpacked(void) {
+    uint16_t words[16], again[13];
+    char text[64];
+    size_t count = numbers(words, "1,2,6, 0, 0,3,2, 0,1,1, 64,113,64,112,256,64"),
+           packed = numbers(again, "1,2,3, 0, 0,0,2, 0,2,1, 112,256,113"),
+           len = spell(text, "ruleset top|rule 0 p ws|rule 0 q|");
+    writes("spare parts", words, count, 64, (tholdrimash_answer){.number = THOLDRIMASH_WRITTEN, .words = 33}, text);
+    reads("spare parts", text, len, 16, (tholdrimash_answer){.number = THOLDRIMASH_READ, .words = (uint32_t)packed},
+          again);
+
+    static const uint16_t whole[] = {1, 1, 0, 0, 0};
+    uint8_t sheet[8];
+    const tholdrimash_answer matched = {.number = THOLDRIMASH_MATCHED, .visits = 4, .words = LEN(whole)};
+    call c = {words, count, "p", sheet, fill(sheet, 1, ""), ALL, LEN(whole)};
+    gives("spare parts, matched", tholdrimash_match, c, matched, whole);
+    c.table = again;
+    c.table_len = packed;
+    gives("spare parts, packed and matched", tholdrimash_match, c, matched, whole);
+}
+
 int main(void) {
     names();
     on_t();
+    t_as_text();
     on_empty_line();
     ties();
     choices();
@@ -524,6 +702,13 @@ int main(void) {
     walks();
     budgets();
     chooses();
+    listings();
+    lines(32, 0, 1);
+    lines(33, 0, 0);
+    lines(1, 512, 1);
+    lines(1, 513, 0);
+    lines(32, 513, 0);
+    unpacked();
     printf("interface.c: %u checks, %u failed\n", checks, failed);
     return failed != 0;
 }

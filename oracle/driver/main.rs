@@ -12,9 +12,10 @@ mod matching;
 mod model;
 mod notation;
 mod random;
-// The crate in rust/ has a layout of its own.
+// The crate in rust/ has a layout of its own, and functions for which the Rust has none.
 #[path = "../../rust/src/raw.rs"]
 #[rustfmt::skip]
+#[allow(dead_code)]
 mod raw;
 #[path = "../../rust/src/readings.rs"]
 #[rustfmt::skip]

@@ -9,33 +9,49 @@
 //! The core is proved; this crate is only tested. The repository's docs/MANUAL.md has all of it at
 //! length: every term, a worked example of each step, and what to do about each number.
 //!
+//! - [`read_table`] reads a rule table from text, one ruleset or rule a line, and [`write_table`]
+//!   writes it.
 //! - [`match_line`] finds the readings with the greatest exact count, [`lookup_line`] the same ones
 //!   by prefix.
 //! - [`Readings::read`] reads the words that they write as trees.
 //! - [`select`] chooses the outcomes of least known size, and refuses a tie on the last pass.
 //!
 //! Two rules that overlap, `mov` with an expression and `mov` with a rule of ruleset 1, which is
-//! `p` or `q`. Both read the line `mov p`. The second has four exact bytes, `m`, `o`, `v` and the
-//! `p` within, the first only three:
+//! `p` or `q`. As text, with spaces here for the tabs between fields, the table is
+//!
+//! ```text
+//! ruleset top
+//! ruleset nested
+//! rule 0 m o v ws expr
+//! rule 0 m o v ws sub1
+//! rule 1 p
+//! rule 1 q
+//! ```
+//!
+//! Both rules read the line `mov p`. The second has four exact bytes, `m`, `o`, `v` and the `p`
+//! within, the first only three:
 //!
 //! ```
-//! use tholdrimash::{match_line, Kind, Readings};
+//! use tholdrimash::{match_line, read_table, Kind, Readings};
 //!
 //! # fn main() -> Result<(), Box<dyn std::error::Error>> {
-//! let table = [
-//!     2, 4, 12, // two rulesets, four rules, twelve parts
-//!     0, 1, // ruleset 0 is a top one, ruleset 1 is nested only
-//!     0, 0, 5, 0, 5, 5, 1, 10, 1, 1, 11, 1, // of each rule: ruleset, first part, part count
-//!     109, 111, 118, 256, 257, // m, o, v, whitespace, an expression
-//!     109, 111, 118, 256, 513, // m, o, v, whitespace, a rule of ruleset 1
-//!     112, 113, // p; q
-//! ];
+//! let text = b"ruleset\ttop\n\
+//!     ruleset\tnested\n\
+//!     rule\t0\tm\to\tv\tws\texpr\n\
+//!     rule\t0\tm\to\tv\tws\tsub1\n\
+//!     rule\t1\tp\n\
+//!     rule\t1\tq\n";
+//! let mut buffer = [0; 64];
+//! let words = read_table(text, &mut buffer).written()?;
+//! let table = &buffer[..words];
+//! assert_eq!(table[..5], [2, 4, 12, 0, 1]); // rulesets, rules, parts; the first is a top one
+//!
 //! let line = b"mov p";
 //! let mut sheet = [255; 2 * 6 * 6]; // 2(n+1)^2 bytes for a line of n
 //! sheet[3 * 6 + 5] = 5; // a free parse from 3, on the space, under the limit 5 ends at 5
 //! let mut answer = [0; 64];
 //!
-//! let words = match_line(&table, line, &sheet, 1_000, &mut answer).written()?;
+//! let words = match_line(table, line, &sheet, 1_000, &mut answer).written()?;
 //! assert_eq!(answer[..words], [1, 4, 0, 1, 1, 1, 4, 5, 1, 0, 0]);
 //!
 //! let readings = Readings::read(&answer[..words]).expect("a whole answer");
@@ -59,12 +75,14 @@
 //! THOLDRIMASH_LIB names its folder where that is not the repository's target/staticlib.
 #![deny(missing_docs, unsafe_code)]
 
+mod listing;
 mod matcher;
 #[allow(unsafe_code)]
 mod raw;
 mod readings;
 mod resolver;
 
+pub use listing::{read_table, write_table, ReadAnswer, WriteAnswer, MOST_BYTES, MOST_WORDS};
 pub use matcher::{lookup_line, match_line, Answer};
 pub use readings::{Argument, Kind, Readings, Tree};
 pub use resolver::{select, Pass, Selection};

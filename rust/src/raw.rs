@@ -62,6 +62,20 @@ extern "C" {
         chosen: *mut u16,
         chosen_len: usize,
     ) -> Selection;
+
+    fn tholdrimash_read_table(
+        text: *const u8,
+        text_len: usize,
+        table: *mut u16,
+        table_len: usize,
+    ) -> Answer;
+
+    fn tholdrimash_write_table(
+        table: *const u16,
+        table_len: usize,
+        text: *mut u8,
+        text_len: usize,
+    ) -> Answer;
 }
 
 pub fn call(
@@ -107,4 +121,16 @@ pub fn select(outcomes: &mut [u32], last_pass: impl Into<u32>, chosen: &mut [u16
             chosen.len(),
         )
     }
+}
+
+pub fn read_table(text: &[u8], table: &mut [u16]) -> Answer {
+    // SAFETY: each pointer and length is a slice's own. Only `table` is written, and it overlaps
+    // nothing, since it is borrowed to be changed.
+    unsafe { tholdrimash_read_table(text.as_ptr(), text.len(), table.as_mut_ptr(), table.len()) }
+}
+
+pub fn write_table(table: &[u16], text: &mut [u8]) -> Answer {
+    // SAFETY: each pointer and length is a slice's own. Only `text` is written, and it overlaps
+    // nothing, since it is borrowed to be changed.
+    unsafe { tholdrimash_write_table(table.as_ptr(), table.len(), text.as_mut_ptr(), text.len()) }
 }

@@ -1,5 +1,5 @@
 -- The two calls: which number, which fields and which memory at the end, for any text, table and room.
--- In words: docs/MANUAL.md, 9.
+-- In words: docs/MANUAL.md, 10.
 use mathlib.Core.Path.{_≡_}
 use mathlib.Core.Bool.{true}
 use mathlib.Core.List.{List}

@@ -1,17 +1,20 @@
 -- How tight the promises are: any two answers that a contract allows on the same arguments are equal, in the C struct's fields
 -- and in what was lent, as it stands at exit. Each law is stated over the contract itself, `Post`, whose first clause,
--- `answers`, is an equation of all of them.
+-- `answers`, is an equation of all of them; reading's allows one thing to be told, as `listing` proves.
 use mathlib.Core.Path.{_≡_}
 use mathlib.Core.List.{List}
 use Prim.Native.Nat.{ℕ}
 use denote.Ref.{now}
 use Rattle.plain.proofs.Answers.{one-answer}
+use Rattle.listing.proofs.Told.{read-call-one}
 use Rattle.tholdrimash.specs.declared.TholdrimashAnswer.{TholdrimashAnswer}
 use Rattle.tholdrimash.specs.declared.TholdrimashSelection.{TholdrimashSelection}
 use Rattle.tholdrimash.specs.Interface.{told, chose}
 use Rattle.tholdrimash.proofs.tholdrimash_match.Reads as match
 use Rattle.tholdrimash.proofs.tholdrimash_lookup.Reads as lookup
 use Rattle.tholdrimash.proofs.tholdrimash_select.Reads as select
+use Rattle.tholdrimash.proofs.tholdrimash_read_table.Reads as read-table
+use Rattle.tholdrimash.proofs.tholdrimash_write_table.Reads as write-table
 
 same-told : (r s : TholdrimashAnswer) (b c : List ℕ) → told r b ≡ told s c → (r ≡ s) × (b ≡ c)
 same-told r s b c e = (λ i. record { number = e i .number; visits = e i .visits; words = e i .words; place = e i .place }, λ i. e i .buffer)
@@ -28,3 +31,9 @@ lookup-tight κs a r s x y p q = same-told r s _ _ (one-answer (p .0) (q .0))
 pub select-tight : (κs a : _) (r s : TholdrimashSelection) (x y : _) → select.Post κs a r x → select.Post κs a s y
     → (r ≡ s) × (now (x .0) ≡ now (y .0)) × (now (x .1 .1 .0) ≡ now (y .1 .1 .0))
 select-tight κs a r s x y p q = same-choice r s _ _ _ _ (one-answer (p .0) (q .0))
+
+pub read-table-tight : (κs a : _) (r s : TholdrimashAnswer) (x y : _) → read-table.Post κs a r x → read-table.Post κs a s y → (r ≡ s) × (now (x .1 .0) ≡ now (y .1 .0))
+read-table-tight κs a r s x y p q = same-told r s _ _ (read-call-one _ _ _ _ p q)
+
+pub write-table-tight : (κs a : _) (r s : TholdrimashAnswer) (x y : _) → write-table.Post κs a r x → write-table.Post κs a s y → (r ≡ s) × (now (x .1 .0) ≡ now (y .1 .0))
+write-table-tight κs a r s x y p q = same-told r s _ _ (one-answer p q)

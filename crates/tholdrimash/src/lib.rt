@@ -1,5 +1,8 @@
 // The C interface: `include/tholdrimash.h` declares these functions, and documents every number and field. Each is one call
-// of `matcher` or `resolver`, with the answer's number and fields as a C struct; a slice is a pointer and a length.
+// of `matcher`, `resolver` or `listing`, with the answer's number and fields as a C struct; a slice is a pointer and a
+// length.
+use listing::reading::ReadAnswer;
+use listing::writing::WriteAnswer;
 use matcher::Answer;
 use resolver::instruction::Selection;
 ghost use mathlib.Core.Path.{_≡_};
@@ -13,8 +16,9 @@ ghost use Rattle.readings.specs.Scene.{sceneOf};
 ghost use Rattle.matcher.specs.Told.{says};
 ghost use Rattle.tholdrimash.specs.Interface.{told, chose, ChosenOnLast};
 ghost use Rattle.resolver.specs.Selection.{selected, selectionSays};
+ghost use Rattle.listing.specs.Calls.{ReadCall, writeCall, readSays, writeSays};
 
-// What matching returns; unstated fields are 0.
+// What matching, reading and writing return; unstated fields are 0.
 #[repr(C)]
 pub struct TholdrimashAnswer {
     pub number: u32,
@@ -128,4 +132,42 @@ pub extern "C" fn tholdrimash_select(
 {
     let selection = resolver::instruction::resolve_encoding(outcomes, last != 0, chosen);
     chosen_fields(selection)
+}
+
+// Each case of reading as its number and fields.
+fn read_fields(answer: ReadAnswer) -> TholdrimashAnswer
+    ensures { λ r. ⌜ ((b : List ℕ) → told r b ≡ readSays answer b) ⌝ }
+{
+    match answer {
+        ReadAnswer::Whole { words } => answer_of(0, 0, words, 0),
+        ReadAnswer::BadText { line } => answer_of(15, 0, 0, line),
+        ReadAnswer::NoRoom => answer_of(16, 0, 0, 0),
+    }
+}
+
+// A rule table from its listing.
+#[no_mangle]
+pub extern "C" fn tholdrimash_read_table(text: &[u8], table: &mut [u16]) -> TholdrimashAnswer
+    ensures answers { λ r. ⌜ ReadCall (now (text .entry)) (now (table .entry)) (told r (now (table .exit))) ⌝ }
+{
+    read_fields(listing::reading::read_table(text, table))
+}
+
+// Each case of writing as its number and fields.
+fn write_fields(answer: WriteAnswer) -> TholdrimashAnswer
+    ensures { λ r. ⌜ ((b : List ℕ) → told r b ≡ writeSays answer b) ⌝ }
+{
+    match answer {
+        WriteAnswer::Whole { words } => answer_of(0, 0, words, 0),
+        WriteAnswer::BadTable => answer_of(2, 0, 0, 0),
+        WriteAnswer::NoRoom => answer_of(16, 0, 0, 0),
+    }
+}
+
+// A rule table's listing.
+#[no_mangle]
+pub extern "C" fn tholdrimash_write_table(table: &[u16], text: &mut [u8]) -> TholdrimashAnswer
+    ensures answers { λ r. ⌜ told r (now (text .exit)) ≡ writeCall (now (table .entry)) (now (text .entry)) ⌝ }
+{
+    write_fields(listing::writing::write_table(table, text))
 }

@@ -2,7 +2,10 @@
 //! what was written, and what stands around each.
 
 use std::fmt::Debug;
-use tholdrimash::{lookup_line, match_line, select, Answer, Pass, Selection};
+use tholdrimash::{
+    lookup_line, match_line, read_table, select, write_table, Answer, Pass, ReadAnswer, Selection,
+    WriteAnswer,
+};
 
 /// Stands around what is lent, and in every place of a buffer.
 const FILLER: u16 = 0xA5C3;
@@ -107,4 +110,22 @@ pub fn selected(outcomes: &[u32], pass: Pass, room: usize) -> (Selection, Vec<u3
     let told = select(words.given(), pass, chosen.given());
     let written = chosen.changed(told.written().unwrap_or(0));
     (told, words.changed(outcomes.len()), written)
+}
+
+/// A table read from text: the answer and the words written.
+pub fn read(text: &[u8], room: usize) -> (ReadAnswer, Vec<u16>) {
+    let mut text = Lent::new(text, 0xA5);
+    let mut table = buffer(room);
+    let told = read_table(text.given(), table.given());
+    text.unchanged();
+    (told, table.changed(told.written().unwrap_or(0)))
+}
+
+/// A table written as text: the answer and the bytes written.
+pub fn write(table: &[u16], room: usize) -> (WriteAnswer, Vec<u8>) {
+    let mut table = Lent::new(table, FILLER);
+    let mut text = Lent::new(&vec![0xA5; room], 0xA5);
+    let told = write_table(table.given(), text.given());
+    table.unchanged();
+    (told, text.changed(told.written().unwrap_or(0)))
 }

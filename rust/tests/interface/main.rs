@@ -1,8 +1,11 @@
-//! The crate's functions against the linked library: document 01's bench cases and every number, on
-//! memory that is watched.
+//! The crate's functions against the linked library: document 01's bench cases, every number, and
+//! tables as text beside a model of them, on memory that is watched.
 
 mod bench;
 mod lent;
+mod listing;
+mod model;
+mod random;
 mod readings;
 mod refusals;
 mod selection;

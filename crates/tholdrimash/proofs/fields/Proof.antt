@@ -1,4 +1,5 @@
 use mathlib.Core.Path.{refl}
+use Rattle.matcher.specs.Told.{says}
 use Rattle.tholdrimash.proofs.Said.{fields-of}
 use borrow.Author.Needs.{needs}
 use Rattle.tholdrimash.proofs.fields.Statement.{statement}
@@ -89,43 +90,43 @@ answer-of-requires-10 c κs = search needs
 
 -- src/lib.rt:39:1
 returns : tie.Need-returns
-returns c = fields-of (c .before .before .answer .given .1) (c .answer-of .ensures) (λ b. refl)
+returns c = fields-of says (c .before .before .answer .given .1) (c .answer-of .ensures) (λ b. refl)
 
 -- src/lib.rt:39:1
 returns-2 : tie.Need-returns-2
-returns-2 c = fields-of (c .before .before .answer2 .given .1) (c .answer-of2 .ensures) (λ b. refl)
+returns-2 c = fields-of says (c .before .before .answer2 .given .1) (c .answer-of2 .ensures) (λ b. refl)
 
 -- src/lib.rt:39:1
 returns-3 : tie.Need-returns-3
-returns-3 c = fields-of (c .before .enum-told .given .1) (c .answer-of3 .ensures) (λ b. refl)
+returns-3 c = fields-of says (c .before .enum-told .given .1) (c .answer-of3 .ensures) (λ b. refl)
 
 -- src/lib.rt:39:1
 returns-4 : tie.Need-returns-4
-returns-4 c = fields-of (c .before .before .answer3 .given .1) (c .answer-of4 .ensures) (λ b. refl)
+returns-4 c = fields-of says (c .before .before .answer3 .given .1) (c .answer-of4 .ensures) (λ b. refl)
 
 -- src/lib.rt:39:1
 returns-5 : tie.Need-returns-5
-returns-5 c = fields-of (c .before .enum-told2 .given .1) (c .answer-of5 .ensures) (λ b. refl)
+returns-5 c = fields-of says (c .before .enum-told2 .given .1) (c .answer-of5 .ensures) (λ b. refl)
 
 -- src/lib.rt:39:1
 returns-6 : tie.Need-returns-6
-returns-6 c = fields-of (c .before .enum-told3 .given .1) (c .answer-of6 .ensures) (λ b. refl)
+returns-6 c = fields-of says (c .before .enum-told3 .given .1) (c .answer-of6 .ensures) (λ b. refl)
 
 -- src/lib.rt:39:1
 returns-7 : tie.Need-returns-7
-returns-7 c = fields-of (c .before .before .answer4 .given .1) (c .answer-of7 .ensures) (λ b. refl)
+returns-7 c = fields-of says (c .before .before .answer4 .given .1) (c .answer-of7 .ensures) (λ b. refl)
 
 -- src/lib.rt:39:1
 returns-8 : tie.Need-returns-8
-returns-8 c = fields-of (c .before .before .answer5 .given .1) (c .answer-of8 .ensures) (λ b. refl)
+returns-8 c = fields-of says (c .before .before .answer5 .given .1) (c .answer-of8 .ensures) (λ b. refl)
 
 -- src/lib.rt:39:1
 returns-9 : tie.Need-returns-9
-returns-9 c = fields-of (c .before .before .answer6 .given .1) (c .answer-of9 .ensures) (λ b. refl)
+returns-9 c = fields-of says (c .before .before .answer6 .given .1) (c .answer-of9 .ensures) (λ b. refl)
 
 -- src/lib.rt:39:1
 returns-10 : tie.Need-returns-10
-returns-10 c = fields-of (c .before .before .answer7 .given .1) (c .answer-of10 .ensures) (λ b. refl)
+returns-10 c = fields-of says (c .before .before .answer7 .given .1) (c .answer-of10 .ensures) (λ b. refl)
 
 pub fields-spec : {M : Type 1} → statement M
 fields-spec =
