@@ -1,6 +1,6 @@
-// The main job on a small table of glyph rules that overlap. For each line of standard input, up to 4,096 bytes: every
-// reading with the most exact parts; then, on a guessing pass and on the last, the smallest known encoding among them, or
-// why the build stops. A line that begins with `#` is a comment.
+// The main job on a small table of glyph rules that overlap, read from its listing at the start. For each line of standard
+// input, up to 4,096 bytes: every reading with the most exact parts; then, on a guessing pass and on the last, the smallest
+// known encoding among them, or why the build stops. A line that begins with `#` is a comment.
 mod outcome;
 mod reading;
 mod rules;
@@ -17,7 +17,10 @@ use crate::selection::Outcomes;
 use crate::show::part;
 use crate::show::say;
 use crate::show::tell;
-use crate::table::TABLE;
+use crate::table::LISTING;
+use crate::table::WORDS;
+use listing::reading::ReadAnswer;
+use listing::reading::read_table;
 use matcher::Answer;
 
 const IN: i32 = 0;
@@ -70,12 +73,12 @@ fn put_readings(line: &[u8], found: &[u16; ROOM], again: &[u16; ROOM]) {
 }
 
 // Makes a line's sheet, and calls both entry points.
-fn read(line: &[u8], sheet: &mut [u8]) {
+fn read(table: &[u16; WORDS], line: &[u8], sheet: &mut [u8]) {
     sheet::fill(sheet, line);
     let mut found = [0u16; ROOM];
-    let scan = matcher::match_instr(&TABLE, line, sheet, BUDGET, &mut found);
+    let scan = matcher::match_instr(table, line, sheet, BUDGET, &mut found);
     let mut again = [0u16; ROOM];
-    matcher::match_with_ruledef_map(&TABLE, line, sheet, BUDGET, &mut again);
+    matcher::match_with_ruledef_map(table, line, sheet, BUDGET, &mut again);
     if word(&found, 0, 0) == 0 {
         put_refusal(scan);
     } else {
@@ -84,7 +87,7 @@ fn read(line: &[u8], sheet: &mut [u8]) {
 }
 
 // Writes a line of the input, and under it what is read in it.
-fn show_line(line: &[u8]) {
+fn show_line(table: &[u16; WORDS], line: &[u8]) {
     say(b"\n");
     say(line);
     if is_comment(line) {
@@ -92,7 +95,7 @@ fn show_line(line: &[u8]) {
     }
     let mut sheet = [0u8; sheet::MOST_BYTES];
     let length = sheet::length(line.len());
-    read(line, &mut sheet[0..length]);
+    read(table, line, &mut sheet[0..length]);
 }
 
 fn is_comment(line: &[u8]) -> bool {
@@ -103,25 +106,41 @@ fn is_comment(line: &[u8]) -> bool {
 }
 
 // The lines of a text: what stands before a newline, and after the last one if that is something.
-fn show_lines(text: &[u8]) {
+fn show_lines(table: &[u16; WORDS], text: &[u8]) {
     let mut from: usize = 0;
     let mut at: usize = 0;
     while at < text.len() {
         if text[at] == b'\n' {
-            show_line(part(text, from, at));
+            show_line(table, part(text, from, at));
             from = at + 1;
         }
         at += 1;
     }
     if from < at {
-        show_line(part(text, from, at));
+        show_line(table, part(text, from, at));
     }
 }
 
-fn main() {
+// Writes the table's rules, and what is read in the lines of standard input.
+fn show_input(table: &[u16; WORDS]) {
     let mut text = io::buffer();
     let n = io::read_full(IN, &mut text);
-    rules::show();
-    show_lines(&text[..n]);
+    rules::show(table);
+    show_lines(table, &text[..n]);
     say(b"\n");
+}
+
+fn main() {
+    let mut table = [0u16; WORDS];
+    let answer = read_table(&LISTING, &mut table);
+    match answer {
+        ReadAnswer::Whole { words: _ } => show_input(&table),
+        ReadAnswer::BadText { line } => tell(
+            b"the listing is refused, number 15: bad line %\n",
+            line as usize,
+            0,
+            0,
+        ),
+        ReadAnswer::NoRoom => say(b"the listing is refused, number 16: its words have no room\n"),
+    }
 }

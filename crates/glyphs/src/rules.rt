@@ -8,7 +8,6 @@ use crate::table::PARTS;
 use crate::table::RECORD;
 use crate::table::RECORDS;
 use crate::table::RULES;
-use crate::table::TABLE;
 use crate::table::TOP_RULES;
 use crate::table::WHITESPACE;
 use crate::table::WORDS;
@@ -45,31 +44,31 @@ pub fn fits_of(rule: usize) -> usize {
     }
 }
 
-// Writes all rules.
-pub fn show() {
+// Writes all rules of the table.
+pub fn show(table: &[u16; WORDS]) {
     say(b"Rules: ruleset.rule, pattern, encoding");
     let mut place: usize = 0;
     while place < RULES {
-        show_rule(place);
+        show_rule(table, place);
         place += 1;
     }
     say(b"\n");
 }
 
 // Writes the rule whose record has this place: its number, pattern and encoding.
-fn show_rule(place: usize)
+fn show_rule(table: &[u16; WORDS], place: usize)
     requires listed { ⌜ place < 9 ⌝ }
 {
     let record = RECORDS + RECORD * place;
-    let first = PARTS + word(record + 1);
-    let end = first + word(record + 2);
+    let first = PARTS + word(table, record + 1);
+    let end = first + word(table, record + 2);
     if place < TOP_RULES {
         tell(b"\n    0.%  ", place, 0, 0);
-        put_parts(first, end);
+        put_parts(table, first, end);
         put_encoding(place);
     } else {
         tell(b"\n    1.%  ", place - TOP_RULES, 0, 0);
-        put_parts(first, end);
+        put_parts(table, first, end);
     }
 }
 
@@ -83,16 +82,16 @@ fn put_encoding(rule: usize) {
 }
 
 // A word of the table, or 0 past its end.
-fn word(i: usize) -> usize
+fn word(table: &[u16; WORDS], i: usize) -> usize
     ensures small { λ r. ⌜ r ≤ 65535 ⌝ }
 {
-    if i < WORDS { wide(TABLE[i]) } else { 0 }
+    if i < WORDS { wide(table[i]) } else { 0 }
 }
 
-fn put_parts(first: usize, end: usize) {
+fn put_parts(table: &[u16; WORDS], first: usize, end: usize) {
     let mut at = first;
     while at < end {
-        put_part(word(at));
+        put_part(word(table, at));
         at += 1;
     }
 }

@@ -6,10 +6,10 @@ use Rattle.glyphs.proofs.show_lines.Statement.{statement}
 use Rattle.glyphs.proofs.show_lines.Tie as tie
 
 abbrev Inv-loop : tie.InvT-loop
-Inv-loop text from₀ at₀ from at = 0 ≤ at
+Inv-loop table text from₀ at₀ from at = 0 ≤ at
 
 abbrev μ-loop : tie.MeasureT-loop
-μ-loop text from₀ at₀ from at = length text - at
+μ-loop table text from₀ at₀ from at = length text - at
 
 loop-holds : tie.Need-loop-holds Inv-loop μ-loop
 loop-holds c = search needs

@@ -5,10 +5,10 @@ use Rattle.glyphs.proofs.rules.put_parts.Statement.{statement}
 use Rattle.glyphs.proofs.rules.put_parts.Tie as tie
 
 abbrev Inv-loop : tie.InvT-loop
-Inv-loop first end at₀ at = 0 ≤ at
+Inv-loop table first end at₀ at = 0 ≤ at
 
 abbrev μ-loop : tie.MeasureT-loop
-μ-loop first end at₀ at = end - at
+μ-loop table first end at₀ at = end - at
 
 loop-holds : tie.Need-loop-holds Inv-loop μ-loop
 loop-holds c = search needs

@@ -5,10 +5,10 @@ use Rattle.glyphs.proofs.rules.show.Statement.{statement}
 use Rattle.glyphs.proofs.rules.show.Tie as tie
 
 abbrev Inv-loop : tie.InvT-loop
-Inv-loop place₀ t3 place = place ≤ 9
+Inv-loop table place₀ t3 place = place ≤ 9
 
 abbrev μ-loop : tie.MeasureT-loop
-μ-loop place₀ t3 place = 9 - place
+μ-loop table place₀ t3 place = 9 - place
 
 slice-aggregate-say : tie.Need-slice-aggregate-say Inv-loop μ-loop
 slice-aggregate-say c = search needs
