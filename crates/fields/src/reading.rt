@@ -1,6 +1,5 @@
 // What the fields of a listing's lines say.
-use crate::words;
-use acceptance;
+use crate::spelling;
 use defs::ruledef;
 ghost use mathlib.Core.Path.{_≡_};
 ghost use Prim.Native.Nat.{_≤_};
@@ -114,19 +113,19 @@ pub fn part_word(text: &[u8], at: usize, end: usize, sets: usize) -> usize
     if end - at == 1 {
         return exact(text[at]);
     }
-    if is_word(text, at, end, &words::WS) {
+    if is_word(text, at, end, &spelling::WS) {
         return ruledef::WHITESPACE;
     }
-    if is_word(text, at, end, &words::EXPR) {
+    if is_word(text, at, end, &spelling::EXPR) {
         return ruledef::EXPRESSION;
     }
-    if end - at < words::SUB_LENGTH {
+    if end - at < spelling::SUB_LENGTH {
         return NO_PART;
     }
-    if !is_word(text, at, at + words::SUB_LENGTH, &words::SUB) {
+    if !is_word(text, at, at + spelling::SUB_LENGTH, &spelling::SUB) {
         return NO_PART;
     }
-    let set = number(text, at + words::SUB_LENGTH, end);
+    let set = number(text, at + spelling::SUB_LENGTH, end);
     if set < sets {
         return ruledef::NESTED + set;
     }

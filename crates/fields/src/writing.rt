@@ -1,6 +1,6 @@
 // The fields of a listing's lines, laid into lent bytes as far as they reach. Each function gives the place after what it lays,
 // so laying into a byte measures.
-use crate::words;
+use crate::spelling;
 use defs::ruledef::Part;
 ghost use mathlib.Core.Path.{_≡_};
 ghost use mathlib.Core.Bool.{true};
@@ -60,10 +60,10 @@ fn put_field(text: &mut [u8], at: usize, part: Part) -> usize
 {
     match part {
         Part::Exact(byte) => put(text, at, byte),
-        Part::Whitespace => put_word(text, at, &words::WS),
-        Part::Expression => put_word(text, at, &words::EXPR),
+        Part::Whitespace => put_word(text, at, &spelling::WS),
+        Part::Expression => put_word(text, at, &spelling::EXPR),
         Part::Nested(set) => {
-            let number = put_word(text, at, &words::SUB);
+            let number = put_word(text, at, &spelling::SUB);
             put_number(text, number, set)
         }
     }
@@ -75,6 +75,6 @@ pub fn put_part(text: &mut [u8], at: usize, part: Part) -> usize
     requires { ⌜ Ready at (partText part) ⌝ }
     ensures answers { λ r. ⌜ Laid (now (text .entry)) at (partText part) (now (text .exit)) r ⌝ }
 {
-    let field = put(text, at, words::TAB);
+    let field = put(text, at, spelling::TAB);
     put_field(text, field, part)
 }

@@ -134,7 +134,7 @@ fn main() {
     let mut table = [0u16; WORDS];
     let answer = read_table(&LISTING, &mut table);
     match answer {
-        ReadAnswer::Whole { words: _ } => show_input(&table),
+        ReadAnswer::Read { words: _ } => show_input(&table),
         ReadAnswer::BadText { line } => tell(
             b"the listing is refused, number 15: bad line %\n",
             line as usize,

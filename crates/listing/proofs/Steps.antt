@@ -19,7 +19,7 @@ use Rattle.packing.specs.Data.{Rule, Data, isPartOf, ruleFits, ascend, partsOf,
 use Rattle.packing.proofs.Limits.{fits-all, all-fits, partsOf-append}
 use Rattle.packing.proofs.Tables.{lastOf-more}
 use Rattle.printing.specs.Listing.{linesOf, Bytes, topField, topWord, nestedWord, rulesetWord, ruleWord, parted}
-use Rattle.printing.specs.Reading.{same, pieces, numberOf, partsIn, both, topIn, ruleIn, checked, withTop, withRule, addTop, addRule, readFields, readLine, good, bad, readFrom, nothing, read}
+use Rattle.printing.specs.Reading.{Read, same, pieces, numberOf, partsIn, both, topIn, ruleIn, checked, withTop, withRule, addTop, addRule, readFields, readLine, good, bad, readFrom, nothing, read}
 use Rattle.printing.specs.FirstBad.{lacks}
 use Rattle.printing.proofs.Pieces.{same-refl, same-true, piece-last, piece-first, pieces-some, parted-pieces}
 use Rattle.printing.proofs.Fields.{top-is}
@@ -283,8 +283,11 @@ lines-more d e line h =
     omega (arith, ap length (line-added d e line h .lines), length-append (linesOf d) (line ∷ []), lines-many d, lines-many e)
 
 module _ (t : Bytes) (at s r p l : ℕ) (h : From t at s r p l) where
-  pub few-lines : s + r ≤ 544
-  few-lines = omega (arith, counted-small (h .so-far) s r p l (h .counted))
+  pub few-sizes : (s ≤ 32) × (r ≤ 512) × (p ≤ 8192)
+  few-sizes = counted-small (h .so-far) s r p l (h .counted)
+
+  few-lines : s + r ≤ 544
+  few-lines = omega (arith, few-sizes)
 
   -- no line end is left: the end is wrong
   pub from-unended : (end : ℕ) → at < length t → Found t at (length t) 10 end → end ≡ length t → (read t ≡ bad (s + r)) × (s + r ≤ 544)
@@ -337,6 +340,10 @@ module _ (t : Bytes) (at s r p l : ℕ) (h : From t at s r p l) where
       go : (h .so-far ≡ nothing) ⊎ (dataFits (h .so-far) ≡ true) → readFrom (s + r) (h .so-far) ([] ∷ []) ≡ good (h .so-far)
       go (inl x) = absurd (n (h .counted .sets ∙ ap (λ (y : Data). length (y .tops)) x))
       go (inr f) = ap (λ (b : Bool). select b (good (h .so-far)) (bad (s + r))) f
+
+-- a line by the number that is told of it
+pub bad-at : {x : Read} {k n : ℕ} → k ≡ n → (x ≡ bad n) × (n ≤ 544) → (x ≡ bad k) × (k ≤ 544)
+bad-at {x} {k} {n} e h = (h .0 ∙ ap bad (sym e), omega (arith, e, h .1))
 
 -- an answer on a line, case by case
 pub says-bad : (o : Option Data) (r : Line) → r ≡ Bad → LineSays o r → o ≡ none

@@ -16,13 +16,13 @@ use Rattle.printing.specs.Reading.{good, read}
 use Rattle.printing.proofs.Accepts.{read-good, listings-apart}
 use Rattle.printing.proofs.Refuses.{read-bad, first-bad-one, not-good}
 use Rattle.listing.specs.declared.reading.ReadAnswer.{ReadAnswer}
-use Rattle.listing.specs.declared.reading.ReadAnswer.the-variants.{Whole, BadText, NoRoom}
+use Rattle.listing.specs.declared.reading.ReadAnswer.the-variants.{Read, BadText, NoRoom}
 use Rattle.listing.specs.declared.judging.Sizes.{Sizes as Sums}
 use Rattle.listing.specs.declared.judging.Judged.{Judged}
 use Rattle.listing.specs.declared.judging.Judged.the-variants.{Good, BadAt}
 use Rattle.listing.specs.Judging.{Judges}
 use Rattle.listing.specs.Packing.{heldBy, listedIn, Listed, wordsFor}
-use Rattle.listing.specs.Calls.{told, wrote, ReadCall, listed, unlisted, readSays}
+use Rattle.listing.specs.Calls.{filled, wrote, ReadCall, listed, unlisted, readSays}
 
 -- how many words there are
 pub packed-many : (t : Bytes) (s r p : ℕ) → Listed t s r p → wordsFor s r p ≡ length (packed (listedIn t))
@@ -71,11 +71,11 @@ module _ (t : Bytes) (s r p : ℕ) (room : List ℕ) where
   said-short h l = whole h NoRoom room (sym (rw (lt-leb (length (packed (listedIn t))) (length room) (omega (arith, packed-many t s r p h)))))
 
   pub said-whole : (after : List ℕ) → Listed t s r p → wordsFor s r p ≤ length room → after ≡ sets room 0 (packed (listedIn t))
-      → ReadCall t room (readSays (Whole (wordsFor s r p)) after)
+      → ReadCall t room (readSays (Read (wordsFor s r p)) after)
   said-whole after h l e =
       let n = packed-many t s r p h in
-      whole h (Whole (wordsFor s r p)) after
-      (ap₂ told n (e ∙ sets-start room (packed (listedIn t)) (omega (arith, n)))
+      whole h (Read (wordsFor s r p)) after
+      (ap₂ filled n (e ∙ sets-start room (packed (listedIn t)) (omega (arith, n)))
       ∙ sym (rw (le-leb (length (packed (listedIn t))) (length room) (omega (arith, n)))))
 
 -- a text and its room leave one answer

@@ -17,10 +17,10 @@ use Rattle.packing.specs.Packed.{packed, dataOf}
 use Rattle.printing.specs.Listing.{Bytes, listing}
 use Rattle.printing.proofs.Rounds.{text-again, table-again}
 use Rattle.listing.specs.declared.reading.ReadAnswer.{ReadAnswer}
-use Rattle.listing.specs.declared.reading.ReadAnswer.the-variants as Read
+use Rattle.listing.specs.declared.reading.ReadAnswer.the-variants as reading
 use Rattle.listing.specs.declared.writing.WriteAnswer.{WriteAnswer}
-use Rattle.listing.specs.declared.writing.WriteAnswer.the-variants as Write
-use Rattle.listing.specs.Calls.{told, wrote, ReadCall, listed, unlisted, writeCall, readSays, writeSays}
+use Rattle.listing.specs.declared.writing.WriteAnswer.the-variants as writing
+use Rattle.listing.specs.Calls.{filled, wrote, ReadCall, listed, unlisted, writeCall, readSays, writeSays}
 use Rattle.listing.proofs.Told.{read-call-one}
 use Rattle.listing.proofs.reading.read_table.Reads as read-table
 use Rattle.listing.proofs.writing.write_table.Reads as write-table
@@ -29,7 +29,7 @@ use Rattle.listing.proofs.writing.write_table.Reads as write-table
 pub wrote-whole : (ws room : List ℕ) (r : Told) → r ≡ wrote ws room → r .number ≡ 0 → take (r .words) (r .buffer) ≡ ws
 wrote-whole ws room r e z = go (leb (length ws) (length room)) e
   where
-    go : (b : Bool) → r ≡ select b (told (length ws) (atStart ws room)) (refusedAt 16 0 room) → take (r .words) (r .buffer) ≡ ws
+    go : (b : Bool) → r ≡ select b (filled (length ws) (atStart ws room)) (refusedAt 16 0 room) → take (r .words) (r .buffer) ≡ ws
     go true q = ap (λ (x : Told). take (x .words) (x .buffer)) q ∙ take-append-seam ws (drop (length ws) room)
     go false q = absurd (omega (arith, z, ap (λ (x : Told). x .number) q))
 
@@ -57,13 +57,13 @@ write-then-read t text room w r e z c = go (tableFits t) refl e
 
 -- ---- the calls themselves
 
-pub text-survives : (κs a : _) (n : ℕ) (x : _) → read-table.Post κs a (Read.Whole n) x → (λs b : _) (s : WriteAnswer) (y : _) → write-table.Post λs b s y
+pub text-survives : (κs a : _) (n : ℕ) (x : _) → read-table.Post κs a (reading.Read n) x → (λs b : _) (s : WriteAnswer) (y : _) → write-table.Post λs b s y
     → now (b .0) ≡ take n (now (x .1 .0)) → writeSays s (now (y .1 .0)) ≡ wrote (now (a .0)) (now (b .1 .0))
 text-survives κs a n x p λs b s y q e =
-    q ∙ ap (λ (t : List ℕ). writeCall t (now (b .1 .0))) e ∙ read-then-write (now (a .0)) (now (a .1 .0)) (now (b .1 .0)) (told n (now (x .1 .0))) p refl
+    q ∙ ap (λ (t : List ℕ). writeCall t (now (b .1 .0))) e ∙ read-then-write (now (a .0)) (now (a .1 .0)) (now (b .1 .0)) (filled n (now (x .1 .0))) p refl
 
-pub table-survives : (κs a : _) (n : ℕ) (x : _) → write-table.Post κs a (Write.Whole n) x → (λs b : _) (s : ReadAnswer) (y : _) → read-table.Post λs b s y
+pub table-survives : (κs a : _) (n : ℕ) (x : _) → write-table.Post κs a (writing.Written n) x → (λs b : _) (s : ReadAnswer) (y : _) → read-table.Post λs b s y
     → now (b .0) ≡ take n (now (x .1 .0)) → readSays s (now (y .1 .0)) ≡ wrote (packed (dataOf (now (a .0)))) (now (b .1 .0))
 table-survives κs a n x p λs b s y q e =
-    write-then-read (now (a .0)) (now (a .1 .0)) (now (b .1 .0)) (told n (now (x .1 .0))) (readSays s (now (y .1 .0))) p refl
+    write-then-read (now (a .0)) (now (a .1 .0)) (now (b .1 .0)) (filled n (now (x .1 .0))) (readSays s (now (y .1 .0))) p refl
     (subst (λ (t : List ℕ). ReadCall t (now (b .1 .0)) (readSays s (now (y .1 .0)))) e q)

@@ -27,9 +27,9 @@ use Rattle.printing.proofs.Pieces.{ended-append}
 use Rattle.printing.proofs.Decimals.{decimal-one, decimal-two}
 use Rattle.fields.specs.Laid.{Laid, Ready, partText}
 use Rattle.fields.proofs.Laying.{Laying, laying-all, ready-as}
-use Rattle.listing.specs.declared.writing.WriteAnswer.the-variants.{Whole, BadTable, NoRoom}
+use Rattle.listing.specs.declared.writing.WriteAnswer.the-variants.{Written, BadTable, NoRoom}
 use Rattle.listing.specs.Writing.{partsText, ruleText, topText, rulesText, topsText}
-use Rattle.listing.specs.Calls.{told, writeCall, writeSays}
+use Rattle.listing.specs.Calls.{filled, writeCall, writeSays}
 
 -- ---- parts
 
@@ -221,11 +221,11 @@ pub said-short : (t : List ℕ) (room : Bytes) (n : ℕ) → tableFits t ≡ tru
 unfolding writeCall
 said-short t room n h e l = sym (rw (writeCall, h, lt-leb (length (listing (dataOf t))) (length room) (omega arith)))
 
-pub said-whole : (t : List ℕ) (room after : Bytes) (n m : ℕ) → tableFits t ≡ true → n ≡ length (listing (dataOf t)) → n ≤ length room → Laid room 0 (listing (dataOf t)) after m → writeSays (Whole m) after ≡ writeCall t room
+pub said-whole : (t : List ℕ) (room after : Bytes) (n m : ℕ) → tableFits t ≡ true → n ≡ length (listing (dataOf t)) → n ≤ length room → Laid room 0 (listing (dataOf t)) after m → writeSays (Written m) after ≡ writeCall t room
 unfolding writeCall
 said-whole t room after n m h e l k =
     let to : m ≡ length (listing (dataOf t)) = omega (arith, k .to) in
-    ap₂ told to (k .left ∙ sets-start room (listing (dataOf t)) (omega arith))
+    ap₂ filled to (k .left ∙ sets-start room (listing (dataOf t)) (omega arith))
     ∙ sym (rw (writeCall, h, le-leb (length (listing (dataOf t))) (length room) (omega arith)))
 
 -- a length as it is returned

@@ -15,17 +15,17 @@ use Rattle.packing.specs.Packed.{packed, dataOf}
 use Rattle.printing.specs.Listing.{Bytes, listing}
 use Rattle.printing.specs.FirstBad.{FirstBad}
 use Rattle.listing.specs.declared.reading.ReadAnswer.{ReadAnswer}
-use Rattle.listing.specs.declared.reading.ReadAnswer.the-variants as Read
+use Rattle.listing.specs.declared.reading.ReadAnswer.the-variants as reading
 use Rattle.listing.specs.declared.writing.WriteAnswer.{WriteAnswer}
-use Rattle.listing.specs.declared.writing.WriteAnswer.the-variants as Write
+use Rattle.listing.specs.declared.writing.WriteAnswer.the-variants as writing
 
 -- 0: the result at the room's start, the rest unchanged; words is its length
-abbrev pub told : ℕ → List ℕ → Told
-told n b = record { number = 0; visits = 0; words = n; place = 0; buffer = b }
+abbrev pub filled : ℕ → List ℕ → Told
+filled n b = record { number = 0; visits = 0; words = n; place = 0; buffer = b }
 
 -- then, for either call, 16 if the result needs more room than lent; room unchanged
 abbrev pub wrote : List ℕ → List ℕ → Told
-wrote ws room = select (leb (length ws) (length room)) (told (length ws) (atStart ws room)) (refusedAt 16 0 room)
+wrote ws room = select (leb (length ws) (length room)) (filled (length ws) (atStart ws room)) (refusedAt 16 0 room)
 
 -- reading gives the packed words of the data whose listing the text is, if there is such data within the limits;
 -- else 15 with the first bad line
@@ -39,11 +39,11 @@ writeCall t room = select (tableFits t) (wrote (listing (dataOf t)) room) (refus
 
 -- each case's number and fields, with the room as it is left
 abbrev pub readSays : ReadAnswer → List ℕ → Told
-readSays (Read.Whole n) b = told n b
-readSays (Read.BadText k) b = refusedAt 15 k b
-readSays Read.NoRoom b = refusedAt 16 0 b
+readSays (reading.Read n) b = filled n b
+readSays (reading.BadText k) b = refusedAt 15 k b
+readSays reading.NoRoom b = refusedAt 16 0 b
 
 abbrev pub writeSays : WriteAnswer → Bytes → Told
-writeSays (Write.Whole n) b = told n b
-writeSays Write.BadTable b = refusedAt 2 0 b
-writeSays Write.NoRoom b = refusedAt 16 0 b
+writeSays (writing.Written n) b = filled n b
+writeSays writing.BadTable b = refusedAt 2 0 b
+writeSays writing.NoRoom b = refusedAt 16 0 b

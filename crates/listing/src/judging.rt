@@ -6,9 +6,9 @@ use fields::reading::find;
 use fields::reading::is_word;
 use fields::reading::number;
 use fields::reading::part_word;
-use fields::words;
+use fields::spelling;
 ghost use mathlib.Core.Path.{_≡_};
-ghost use Prim.Native.Nat.{_≤_};
+ghost use Prim.Native.Nat.{_+_, _≤_};
 ghost use lib.ListN.{length};
 ghost use lib.Seq.{slice};
 ghost use Rattle.packing.specs.Data.{Data};
@@ -48,7 +48,7 @@ fn judge_parts(text: &[u8], at: usize, end: usize, sets: usize) -> usize
     let mut parameters = 0;
     while tab < end {
         let from = tab + 1;
-        tab = find(text, from, end, words::TAB);
+        tab = find(text, from, end, spelling::TAB);
         let word = part_word(text, from, tab, sets);
         if word == NO_PART {
             return ruledef::MOST_PARTS_A_RULE + 1;
@@ -57,6 +57,7 @@ fn judge_parts(text: &[u8], at: usize, end: usize, sets: usize) -> usize
         if count > ruledef::MOST_PARTS_A_RULE {
             return ruledef::MOST_PARTS_A_RULE + 1;
         }
+        // Of the words of parts, those of parameters are the greatest.
         if word > ruledef::WHITESPACE {
             parameters = parameters + 1;
         }
@@ -68,94 +69,103 @@ fn judge_parts(text: &[u8], at: usize, end: usize, sets: usize) -> usize
 }
 
 // A ruleset's line, by the field after its word.
-fn judge_top(text: &[u8], at: usize, end: usize, sums: Sizes) -> Line
+fn judge_top(text: &[u8], at: usize, end: usize, sizes: Sizes) -> Line
     requires { ⌜ at ≤ end ⌝ }
     requires { ⌜ end ≤ length (now text) ⌝ }
-    requires { ⌜ Countable (sums .sets) (sums .rules) (sums .parts) (sums .last) ⌝ }
+    requires { ⌜ Countable (sizes .sets) (sizes .rules) (sizes .parts) (sizes .last) ⌝ }
     ensures says { λ r.
-        ⌜ ((d : Data) → Counted d (sums .sets) (sums .rules) (sums .parts) (sums .last) → LineSays (addTop d (d .rules) (topIn (pieces 9 (slice at end (now (text .entry)))))) r) ⌝ }
+        ⌜ ((d : Data) → Counted d (sizes .sets) (sizes .rules) (sizes .parts) (sizes .last) → LineSays (addTop d (d .rules) (topIn (pieces 9 (slice at end (now (text .entry)))))) r) ⌝ }
 {
-    if sums.rules > 0 {
+    if sizes.rules > 0 {
         return Line::Bad;
     }
-    if sums.sets == ruledef::MOST_RULESETS {
+    if sizes.sets == ruledef::MOST_RULESETS {
         return Line::Bad;
     }
     let next = Sizes {
-        sets: sums.sets + 1,
+        sets: sizes.sets + 1,
         rules: 0,
         parts: 0,
         last: 0,
     };
-    if is_word(text, at, end, &words::TOP) {
+    if is_word(text, at, end, &spelling::TOP) {
         return Line::Fits(next);
     }
-    if is_word(text, at, end, &words::NESTED) {
+    if is_word(text, at, end, &spelling::NESTED) {
         return Line::Fits(next);
     }
     Line::Bad
 }
 
 // A rule's line, by the fields after its word.
-fn judge_rule(text: &[u8], at: usize, end: usize, sums: Sizes) -> Line
+fn judge_rule(text: &[u8], at: usize, end: usize, sizes: Sizes) -> Line
     requires { ⌜ at ≤ end ⌝ }
     requires { ⌜ end ≤ length (now text) ⌝ }
-    requires { ⌜ Countable (sums .sets) (sums .rules) (sums .parts) (sums .last) ⌝ }
+    requires { ⌜ Countable (sizes .sets) (sizes .rules) (sizes .parts) (sizes .last) ⌝ }
     ensures says { λ r.
-        ⌜ ((d : Data) → Counted d (sums .sets) (sums .rules) (sums .parts) (sums .last) → LineSays (addRule d (ruleIn (pieces 9 (slice at end (now (text .entry)))))) r) ⌝ }
+        ⌜ ((d : Data) → Counted d (sizes .sets) (sizes .rules) (sizes .parts) (sizes .last) → LineSays (addRule d (ruleIn (pieces 9 (slice at end (now (text .entry)))))) r) ⌝ }
 {
-    let tab = find(text, at, end, words::TAB);
+    let tab = find(text, at, end, spelling::TAB);
     let set = number(text, at, tab);
-    if set >= sums.sets {
+    if set >= sizes.sets {
         return Line::Bad;
     }
-    if set < sums.last {
+    if set < sizes.last {
         return Line::Bad;
     }
-    if sums.rules == ruledef::MOST_RULES {
+    if sizes.rules == ruledef::MOST_RULES {
         return Line::Bad;
     }
-    let count = judge_parts(text, tab, end, sums.sets);
+    let count = judge_parts(text, tab, end, sizes.sets);
     if count > ruledef::MOST_PARTS_A_RULE {
         return Line::Bad;
     }
-    if sums.parts + count > ruledef::MOST_PARTS {
+    if sizes.parts + count > ruledef::MOST_PARTS {
         return Line::Bad;
     }
     Line::Fits(Sizes {
-        sets: sums.sets,
-        rules: sums.rules + 1,
-        parts: sums.parts + count,
+        sets: sizes.sets,
+        rules: sizes.rules + 1,
+        parts: sizes.parts + count,
         last: set,
     })
 }
 
 // One more line.
-fn judge_line(text: &[u8], at: usize, end: usize, sums: Sizes) -> Line
+fn judge_line(text: &[u8], at: usize, end: usize, sizes: Sizes) -> Line
     requires { ⌜ at ≤ end ⌝ }
     requires { ⌜ end ≤ length (now text) ⌝ }
-    requires { ⌜ Countable (sums .sets) (sums .rules) (sums .parts) (sums .last) ⌝ }
+    requires { ⌜ Countable (sizes .sets) (sizes .rules) (sizes .parts) (sizes .last) ⌝ }
     ensures says { λ r.
-        ⌜ ((d : Data) → Counted d (sums .sets) (sums .rules) (sums .parts) (sums .last) → LineSays (readLine d (slice at end (now (text .entry)))) r) ⌝ }
+        ⌜ ((d : Data) → Counted d (sizes .sets) (sizes .rules) (sizes .parts) (sizes .last) → LineSays (readLine d (slice at end (now (text .entry)))) r) ⌝ }
 {
-    let tab = find(text, at, end, words::TAB);
+    let tab = find(text, at, end, spelling::TAB);
     if tab == end {
         return Line::Bad;
     }
-    if is_word(text, at, tab, &words::RULESET) {
-        return judge_top(text, tab + 1, end, sums);
+    if is_word(text, at, tab, &spelling::RULESET) {
+        return judge_top(text, tab + 1, end, sizes);
     }
-    if is_word(text, at, tab, &words::RULE) {
-        return judge_rule(text, tab + 1, end, sums);
+    if is_word(text, at, tab, &spelling::RULE) {
+        return judge_rule(text, tab + 1, end, sizes);
     }
     Line::Bad
 }
 
-// The whole text. Each line so far is a ruleset or a rule, so their number is the number of the next line.
+// The number of the line after those that have these sizes: each of them is a ruleset or a rule.
+fn next_line(sizes: Sizes) -> usize
+    requires { ⌜ sizes .sets ≤ 32 ⌝ }
+    requires { ⌜ sizes .rules ≤ 512 ⌝ }
+    ensures { λ r. ⌜ r ≡ sizes .sets + sizes .rules ⌝ }
+{
+    sizes.sets + sizes.rules
+}
+
+// The whole text.
 pub fn judge(text: &[u8]) -> Judged
     ensures says { λ r. ⌜ Judges (read (now (text .entry))) r ⌝ }
 {
-    let mut sums = Sizes {
+    let mut sizes = Sizes {
         sets: 0,
         rules: 0,
         parts: 0,
@@ -163,19 +173,19 @@ pub fn judge(text: &[u8]) -> Judged
     };
     let mut at = 0;
     while at < text.len() {
-        let end = find(text, at, text.len(), words::END);
+        let end = find(text, at, text.len(), spelling::END);
         if end == text.len() {
-            return Judged::BadAt(sums.sets + sums.rules);
+            return Judged::BadAt(next_line(sizes));
         }
-        let judged = judge_line(text, at, end, sums);
+        let judged = judge_line(text, at, end, sizes);
         let Line::Fits(next) = judged else {
-            return Judged::BadAt(sums.sets + sums.rules);
+            return Judged::BadAt(next_line(sizes));
         };
-        sums = next;
+        sizes = next;
         at = end + 1;
     }
-    if sums.sets == 0 {
-        return Judged::BadAt(sums.sets + sums.rules);
+    if sizes.sets == 0 {
+        return Judged::BadAt(next_line(sizes));
     }
-    Judged::Good(sums)
+    Judged::Good(sizes)
 }

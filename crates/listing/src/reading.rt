@@ -9,7 +9,7 @@ use fields::reading::find;
 use fields::reading::is_word;
 use fields::reading::number;
 use fields::reading::part_word;
-use fields::words;
+use fields::spelling;
 ghost use mathlib.Core.Path.{_≡_};
 ghost use mathlib.Core.List.{[], _∷_, map};
 ghost use Prim.Native.Nat.{_+_, _≤_, _<_};
@@ -27,7 +27,7 @@ ghost use Rattle.listing.specs.Calls.{ReadCall, readSays};
 // What reading answers. `readSays` gives each case's number and fields.
 pub enum ReadAnswer {
     // 0: how many words were written at the room's start.
-    Whole { words: u32 },
+    Read { words: u32 },
     // 15: the first bad line, counted from 0.
     BadText { line: u32 },
     // 16: the words are more than their room.
@@ -40,7 +40,7 @@ fn flag(text: &[u8], at: usize, end: usize) -> u16
     requires { ⌜ end ≤ length (now text) ⌝ }
     ensures answers { λ r. ⌜ r ≡ flagOf (same (slice at end (now (text .entry))) topWord) ⌝ }
 {
-    if is_word(text, at, end, &words::TOP) {
+    if is_word(text, at, end, &spelling::TOP) {
         return 0;
     }
     1
@@ -69,8 +69,8 @@ fn lay_tops(text: &[u8], sizes: Sizes, table: &mut [u16]) -> usize
     let mut at = 0;
     let mut set = 0;
     while set < sizes.sets {
-        let end = find(text, at, text.len(), words::END);
-        let field = find(text, at, end, words::TAB) + 1;
+        let end = find(text, at, text.len(), spelling::END);
+        let field = find(text, at, end, spelling::TAB) + 1;
         table[ruledef::HEAD + set] = flag(text, field, end);
         set = set + 1;
         at = end + 1;
@@ -97,7 +97,7 @@ fn lay_parts(
     let mut to = from;
     while at < end {
         let field = at + 1;
-        at = find(text, field, end, words::TAB);
+        at = find(text, field, end, spelling::TAB);
         table[to] = part_word(text, field, at, sets) as u16;
         to = to + 1;
     }
@@ -116,10 +116,10 @@ fn lay_rules(text: &[u8], from: usize, sizes: Sizes, table: &mut [u16])
     let mut row = ruledef::HEAD + sizes.sets;
     let mut part = first;
     while row < first {
-        let end = find(text, at, text.len(), words::END);
-        let field = find(text, at, end, words::TAB) + 1;
+        let end = find(text, at, text.len(), spelling::END);
+        let field = find(text, at, end, spelling::TAB) + 1;
         at = end + 1;
-        let tab = find(text, field, end, words::TAB);
+        let tab = find(text, field, end, spelling::TAB);
         let next = lay_parts(text, tab, end, sizes.sets, table, part);
         lay_three(
             table,
@@ -134,7 +134,7 @@ fn lay_rules(text: &[u8], from: usize, sizes: Sizes, table: &mut [u16])
 }
 
 // The packed words of a judged text's data.
-fn lay(text: &[u8], sizes: Sizes, table: &mut [u16])
+fn lay_table(text: &[u8], sizes: Sizes, table: &mut [u16])
     requires { ⌜ Listed (now text) (sizes .sets) (sizes .rules) (sizes .parts) ⌝ }
     requires { ⌜ wordsFor (sizes .sets) (sizes .rules) (sizes .parts) ≤ length (now table) ⌝ }
     ensures laid { λ _. ⌜ now (table .exit) ≡ sets (now (table .entry)) 0 (packed (listedIn (now (text .entry)))) ⌝ }
@@ -156,8 +156,8 @@ pub fn read_table(text: &[u8], table: &mut [u16]) -> ReadAnswer
             if table.len() < words {
                 return ReadAnswer::NoRoom;
             }
-            lay(text, sizes, table);
-            ReadAnswer::Whole {
+            lay_table(text, sizes, table);
+            ReadAnswer::Read {
                 words: words as u32,
             }
         }

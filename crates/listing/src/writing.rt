@@ -1,8 +1,7 @@
 // A table's listing. One function lays it into lent bytes as far as they reach, and says how long it is, so laying it into a
 // byte measures it. It refuses words that are no table (2) and a listing that has no room (16).
-use acceptance;
 use defs::ruledef;
-use fields::words;
+use fields::spelling;
 use fields::writing::put;
 use fields::writing::put_number;
 use fields::writing::put_part;
@@ -23,7 +22,7 @@ ghost use Rattle.listing.specs.Writing.{partsText, ruleText, topText, ru
 // What writing answers. `writeSays` gives each case's number and fields.
 pub enum WriteAnswer {
     // 0: how many bytes were written at the room's start.
-    Whole { words: u32 },
+    Written { bytes: u32 },
     // 2
     BadTable,
     // 16: the listing is longer than its room.
@@ -54,12 +53,12 @@ fn put_rule(table: &[u16], rule: u16, text: &mut [u8], at: usize) -> usize
     requires { ⌜ Ready at (ruleText (ruleAt (now table) rule)) ⌝ }
     ensures laid { λ r. ⌜ Laid (now (text .entry)) at (ruleText (ruleAt (now (table .entry)) rule)) (now (text .exit)) r ⌝ }
 {
-    let tab = put_word(text, at, &words::RULE);
-    let number = put(text, tab, words::TAB);
+    let tab = put_word(text, at, &spelling::RULE);
+    let number = put(text, tab, spelling::TAB);
     let fields = put_number(text, number, ruledef::ruleset_of(table, rule));
     let parts = ruledef::parts_of(table, rule);
     let end = put_parts(table, parts.at, parts.end, text, fields);
-    put(text, end, words::END)
+    put(text, end, spelling::END)
 }
 
 fn put_rules(table: &[u16], text: &mut [u8], at: usize) -> usize
@@ -84,9 +83,9 @@ fn put_kind(text: &mut [u8], at: usize, top: bool) -> usize
     ensures laid { λ r. ⌜ Laid (now (text .entry)) at (topField top) (now (text .exit)) r ⌝ }
 {
     if top {
-        return put_word(text, at, &words::TOP);
+        return put_word(text, at, &spelling::TOP);
     }
-    put_word(text, at, &words::NESTED)
+    put_word(text, at, &spelling::NESTED)
 }
 
 // A ruleset's line.
@@ -94,10 +93,10 @@ fn put_top(text: &mut [u8], at: usize, top: bool) -> usize
     requires { ⌜ Ready at (topText top) ⌝ }
     ensures laid { λ r. ⌜ Laid (now (text .entry)) at (topText top) (now (text .exit)) r ⌝ }
 {
-    let tab = put_word(text, at, &words::RULESET);
-    let field = put(text, tab, words::TAB);
+    let tab = put_word(text, at, &spelling::RULESET);
+    let field = put(text, tab, spelling::TAB);
     let end = put_kind(text, field, top);
-    put(text, end, words::END)
+    put(text, end, spelling::END)
 }
 
 fn put_tops(table: &[u16], text: &mut [u8]) -> usize
@@ -117,7 +116,7 @@ fn put_tops(table: &[u16], text: &mut [u8]) -> usize
 }
 
 // Lays an accepted table's listing as far as there is room, and says how long it is.
-fn lay(table: &[u16], text: &mut [u8]) -> usize
+fn put_table(table: &[u16], text: &mut [u8]) -> usize
     requires { ⌜ tableFits (now table) ≡ true ⌝ }
     ensures laid { λ r. ⌜ Laid (now (text .entry)) 0 (listing (dataOf (now (table .entry)))) (now (text .exit)) r ⌝ }
 {
@@ -131,7 +130,7 @@ fn measure(table: &[u16]) -> usize
     ensures { λ r. ⌜ r ≡ length (listing (dataOf (now (table .entry)))) ⌝ }
 {
     let mut byte = [0u8; 1];
-    lay(table, &mut byte)
+    put_table(table, &mut byte)
 }
 
 // The table's rulesets and rules as text, at the room's start.
@@ -144,8 +143,8 @@ pub fn write_table(table: &[u16], text: &mut [u8]) -> WriteAnswer
     if text.len() < measure(table) {
         return WriteAnswer::NoRoom;
     }
-    let words = lay(table, text);
-    WriteAnswer::Whole {
-        words: words as u32,
+    let bytes = put_table(table, text);
+    WriteAnswer::Written {
+        bytes: bytes as u32,
     }
 }

@@ -12,9 +12,9 @@ use Rattle.plain.specs.Told.{Told, refusedAt}
 use Rattle.defs.specs.Table.{tableFits}
 use Rattle.packing.specs.Packed.{packed, dataOf}
 use Rattle.printing.specs.Listing.{listing}
-use Rattle.listing.specs.declared.reading.ReadAnswer.the-variants as Read
-use Rattle.listing.specs.declared.writing.WriteAnswer.the-variants as Write
-use Rattle.listing.specs.Calls.{told, wrote, writeCall}
+use Rattle.listing.specs.declared.reading.ReadAnswer.the-variants as reading
+use Rattle.listing.specs.declared.writing.WriteAnswer.the-variants as writing
+use Rattle.listing.specs.Calls.{filled, wrote, writeCall}
 use Rattle.listing.proofs.Twice.{wrote-whole, table-survives}
 use Rattle.listing.proofs.reading.read_table.Reads as read-table
 use Rattle.listing.proofs.writing.write_table.Reads as write-table
@@ -30,19 +30,19 @@ use Rattle.matcher.proofs.match_with_ruledef_map.Reads as match-with-ruledef-ma
 use Rattle.rewriting.proofs.Rewriting.{rewritten-call}
 
 -- only an accepted table is written
-pub written-fits : (t text : List ℕ) (n : ℕ) (b : List ℕ) → told n b ≡ writeCall t text → tableFits t ≡ true
+pub written-fits : (t text : List ℕ) (n : ℕ) (b : List ℕ) → filled n b ≡ writeCall t text → tableFits t ≡ true
 unfolding writeCall
 written-fits t text n b e = go (tableFits t) refl e
   where
-    go : (q : Bool) → tableFits t ≡ q → told n b ≡ select q (wrote (listing (dataOf t)) text) (refusedAt 2 0 text) → tableFits t ≡ true
+    go : (q : Bool) → tableFits t ≡ q → filled n b ≡ select q (wrote (listing (dataOf t)) text) (refusedAt 2 0 text) → tableFits t ≡ true
     go true f h = f
     go false f h = let two : _≡_ {A = ℕ} 0 2 = ap (λ (r : Told). r .number) h in absurd (omega (arith, two))
 
-module _ (κs a : _) (n : ℕ) (x : _) (written : write-table.Post κs a (Write.Whole n) x) (λs b : _) (m : ℕ) (y : _) (read : read-table.Post λs b (Read.Whole m) y)
+module _ (κs a : _) (n : ℕ) (x : _) (written : write-table.Post κs a (writing.Written n) x) (λs b : _) (m : ℕ) (y : _) (read : read-table.Post λs b (reading.Read m) y)
     (same : now (b .0) ≡ take n (now (x .1 .0))) where
   -- the rewritten table
   pub rewritten : take m (now (y .1 .0)) ≡ packed (dataOf (now (a .0)))
-  rewritten = wrote-whole (packed (dataOf (now (a .0)))) (now (b .1 .0)) (told m (now (y .1 .0))) (table-survives κs a n x written λs b (Read.Whole m) y read same) refl
+  rewritten = wrote-whole (packed (dataOf (now (a .0)))) (now (b .1 .0)) (filled m (now (y .1 .0))) (table-survives κs a n x written λs b (reading.Read m) y read same) refl
 
   again : (order : Scene → List (ℕ × ℕ)) (t line sheet : List ℕ) (budget : ℕ) (answer : List ℕ) → t ≡ take m (now (y .1 .0))
       → callWith order t line sheet budget answer ≡ callWith order (now (a .0)) line sheet budget answer

@@ -139,7 +139,7 @@ fn read_fields(answer: ReadAnswer) -> TholdrimashAnswer
     ensures { λ r. ⌜ ((b : List ℕ) → told r b ≡ readSays answer b) ⌝ }
 {
     match answer {
-        ReadAnswer::Whole { words } => answer_of(0, 0, words, 0),
+        ReadAnswer::Read { words } => answer_of(0, 0, words, 0),
         ReadAnswer::BadText { line } => answer_of(15, 0, 0, line),
         ReadAnswer::NoRoom => answer_of(16, 0, 0, 0),
     }
@@ -158,7 +158,7 @@ fn write_fields(answer: WriteAnswer) -> TholdrimashAnswer
     ensures { λ r. ⌜ ((b : List ℕ) → told r b ≡ writeSays answer b) ⌝ }
 {
     match answer {
-        WriteAnswer::Whole { words } => answer_of(0, 0, words, 0),
+        WriteAnswer::Written { bytes } => answer_of(0, 0, words, 0),
         WriteAnswer::BadTable => answer_of(2, 0, 0, 0),
         WriteAnswer::NoRoom => answer_of(16, 0, 0, 0),
     }

@@ -39,7 +39,7 @@ add-t10 : tie.Need-add-t10
 add-t10 c = omega (arith, counted-small _ _ _ _ _ (c .before .before .before .before .before .before .before .before .before .before .before .before .before .before .before .pre .1 .1 .counted) .2, c .before .before .before .before .if4 .left)
 
 returns-6 : tie.Need-returns-6
-returns-6 c = λ d k. fields-some (c .before .before .before .before .before .before .before .before .before .before .before .before .before .before .before .args .text .now) (c .before .before .before .before .before .before .before .before .before .before .before .before .before .before .before .args .at) (c .before .before .before .before .before .before .before .before .before .before .before .before .before .before .before .args .end) (c .before .before .before .before .before .before .before .before .before .before .before .before .before .find .result) (c .before .before .before .before .before .before .before .before .before .before .before .before .before .before .before .pre .1 .0) (c .before .before .before .before .before .before .before .before .before .before .before .before .before .find .ensures) d _ _ _ _ _ _ k (c .before .before .before .before .before .before .before .before .before .before .before .before .number .ensures) (c .before .before .before .before .before .judge-parts .ensures) (record { below = c .before .before .before .before .before .before .before .before .before .before .if1 .left; order = c .before .before .before .before .before .before .before .before .if2 .left; few = omega (arith, counted-small _ _ _ _ _ (c .before .before .before .before .before .before .before .before .before .before .before .before .before .before .before .pre .1 .1 .counted) .1, c .before .before .before .before .before .before .if3 .left); short = c .before .before .before .before .if4 .left; room = c .before .before .if5 .left })
+returns-6 c = λ d k. fields-some (c .before .before .before .before .before .before .before .before .before .before .before .before .before .before .before .args .text .now) (c .before .before .before .before .before .before .before .before .before .before .before .before .before .before .before .args .at) (c .before .before .before .before .before .before .before .before .before .before .before .before .before .before .before .args .end) (c .before .before .before .before .before .before .before .before .before .before .before .before .before .find .result) (c .before .before .before .before .before .before .before .before .before .before .before .before .before .before .before .pre .1 .0) (c .before .before .before .before .before .before .before .before .before .before .before .before .before .find .ensures) d _ _ _ _ _ _ k (c .before .before .before .before .before .before .before .before .before .before .before .before .number .ensures) (c .before .before .before .before .before .judge-parts .ensures) (record { below = omega (arith, c .before .before .before .before .before .before .before .before .before .before .if1 .left); order = omega (arith, c .before .before .before .before .before .before .before .before .if2 .left); few = omega (arith, counted-small _ _ _ _ _ (c .before .before .before .before .before .before .before .before .before .before .before .before .before .before .before .pre .1 .1 .counted) .1, c .before .before .before .before .before .before .if3 .left); short = omega (arith, c .before .before .before .before .if4 .left); room = omega (arith, c .before .before .if5 .left) })
 
 pub judge-rule-spec : {M : Type 1} → statement M
 judge-rule-spec =

@@ -8,10 +8,10 @@ use Rattle.listing.proofs.judging.judge_top.Statement.{statement}
 use Rattle.listing.proofs.judging.judge_top.Tie as tie
 
 returns : tie.Need-returns
-returns c = λ d k. top-after d _ _ _ _ k _ (c .if1 .taken)
+returns c = λ d k. top-after d _ _ _ _ k _ (omega (arith, c .if1 .taken))
 
 returns-2 : tie.Need-returns-2
-returns-2 c = λ d k. top-full d _ _ _ _ k _ (c .before .before .if1 .left) (c .if2 .taken)
+returns-2 c = λ d k. top-full d _ _ _ _ k _ (omega (arith, c .before .before .if1 .left)) (omega (arith, c .if2 .taken))
 
 add-t9 : tie.Need-add-t9
 add-t9 c = omega (arith, counted-small _ _ _ _ _ (c .before .before .before .before .before .before .pre .1 .1 .counted) .0)
@@ -23,7 +23,7 @@ is-word-requires : tie.Need-is-word-requires
 is-word-requires c κs = (c .before .before .before .before .before .before .before .pre .0, c .before .before .before .before .before .before .before .pre .1 .0)
 
 returns-3 : tie.Need-returns-3
-returns-3 c = λ d k. top-more d _ _ _ _ k _ true (top-field _ (sym (c .before .is-word .ensures) ∙ c .if3 .taken)) (c .before .before .before .before .before .before .if1 .left) (c .before .before .before .before .if2 .left)
+returns-3 c = λ d k. top-more d _ _ _ _ k _ true (top-field _ (sym (c .before .is-word .ensures) ∙ c .if3 .taken)) (omega (arith, c .before .before .before .before .before .before .if1 .left)) (λ e. omega (arith, e, c .before .before .before .before .if2 .left))
 
 slice-aggregate-is-word-2 : tie.Need-slice-aggregate-is-word-2
 slice-aggregate-is-word-2 c = search needs
@@ -32,7 +32,7 @@ is-word-requires-2 : tie.Need-is-word-requires-2
 is-word-requires-2 c κs = (c .before .before .before .before .before .before .before .before .before .before .pre .0, c .before .before .before .before .before .before .before .before .before .before .pre .1 .0)
 
 returns-4 : tie.Need-returns-4
-returns-4 c = λ d k. top-more d _ _ _ _ k _ false (nested-field _ (sym (c .before .is-word2 .ensures) ∙ c .if4 .taken)) (c .before .before .before .before .before .before .before .before .before .if1 .left) (c .before .before .before .before .before .before .before .if2 .left)
+returns-4 c = λ d k. top-more d _ _ _ _ k _ false (nested-field _ (sym (c .before .is-word2 .ensures) ∙ c .if4 .taken)) (omega (arith, c .before .before .before .before .before .before .before .before .before .if1 .left)) (λ e. omega (arith, e, c .before .before .before .before .before .before .before .if2 .left))
 
 returns-5 : tie.Need-returns-5
 returns-5 c = λ d k. top-neither d _ _ _ _ k _ (no-field _ (sym (c .before .before .before .before .is-word .ensures) ∙ c .before .before .before .if3 .left) (sym (c .before .is-word2 .ensures) ∙ c .if4 .left))

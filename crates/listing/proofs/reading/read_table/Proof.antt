@@ -31,10 +31,10 @@ add-words-3 : tie.Need-add-words-3
 add-words-3 c = omega (arith, listed-small (c .before .before .before .before .before .before .before .before .before .args .text .now) _ _ _ (said-listed (c .before .before .before .before .before .before .before .before .before .args .text .now) _ _ (c .before .before .before .before .judged2 .given .1) (c .before .before .before .before .before .before .judge .ensures)))
 
 returns : tie.Need-returns
-returns c = said-short (c .before .before .before .before .before .before .before .before .before .before .args .text .now) _ _ _ (c .before .before .before .before .before .before .before .before .before .before .args .table .now) (said-listed (c .before .before .before .before .before .before .before .before .before .before .args .text .now) _ _ (c .before .before .before .before .before .judged2 .given .1) (c .before .before .before .before .before .before .before .judge .ensures)) (c .if1 .taken)
+returns c = said-short (c .before .before .before .before .before .before .before .before .before .before .args .text .now) _ _ _ (c .before .before .before .before .before .before .before .before .before .before .args .table .now) (said-listed (c .before .before .before .before .before .before .before .before .before .before .args .text .now) _ _ (c .before .before .before .before .before .judged2 .given .1) (c .before .before .before .before .before .before .before .judge .ensures)) (omega (arith, c .if1 .taken))
 
-lay-requires : tie.Need-lay-requires
-lay-requires c κs = ((said-listed (c .before .before .before .before .before .before .before .before .before .before .before .args .text .now) _ _ (c .before .before .before .before .before .before .judged2 .given .1) (c .before .before .before .before .before .before .before .before .judge .ensures)), c .before .if1 .left)
+lay-table-requires : tie.Need-lay-table-requires
+lay-table-requires c κs = ((said-listed (c .before .before .before .before .before .before .before .before .before .before .before .args .text .now) _ _ (c .before .before .before .before .before .before .judged2 .given .1) (c .before .before .before .before .before .before .before .before .judge .ensures)), omega (arith, c .before .if1 .left))
 
 cast-t16 : tie.Need-cast-t16
 cast-t16 c = omega (arith, listed-small (c .before .before .before .before .before .before .before .before .before .before .before .before .before .before .args .text .now) _ _ _ (said-listed (c .before .before .before .before .before .before .before .before .before .before .before .before .before .before .args .text .now) _ _ (c .before .before .before .before .before .before .before .before .before .judged2 .given .1) (c .before .before .before .before .before .before .before .before .before .before .before .judge .ensures)))
@@ -46,7 +46,7 @@ same-length : tie.Need-same-length
 same-length c = search needs
 
 returns-3 : tie.Need-returns-3
-returns-3 c = said-whole (c .before .before .before .before .before .before .before .before .before .before .before .before .before .before .args .text .now) _ _ _ (c .before .before .before .before .before .before .before .before .before .before .before .before .before .before .args .table .now) _ (said-listed (c .before .before .before .before .before .before .before .before .before .before .before .before .before .before .args .text .now) _ _ (c .before .before .before .before .before .before .before .before .before .judged2 .given .1) (c .before .before .before .before .before .before .before .before .before .before .before .judge .ensures)) (c .before .before .before .before .if1 .left) (c .before .before .lay .ensures)
+returns-3 c = said-whole (c .before .before .before .before .before .before .before .before .before .before .before .before .before .before .args .text .now) _ _ _ (c .before .before .before .before .before .before .before .before .before .before .before .before .before .before .args .table .now) _ (said-listed (c .before .before .before .before .before .before .before .before .before .before .before .before .before .before .args .text .now) _ _ (c .before .before .before .before .before .before .before .before .before .judged2 .given .1) (c .before .before .before .before .before .before .before .before .before .before .before .judge .ensures)) (omega (arith, c .before .before .before .before .if1 .left)) (c .before .before .lay-table .ensures)
 
 pub read-table-spec : {M : Type 1} → statement M
 read-table-spec =
@@ -61,7 +61,7 @@ read-table-spec =
     add-words-2
     add-words-3
     returns
-    lay-requires
+    lay-table-requires
     cast-t16
     returns-2
     same-length

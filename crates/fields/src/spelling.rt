@@ -1,4 +1,5 @@
-// The words of a listing, each standing here alone: the reader compares them byte for byte, the writer writes them.
+// The words of a listing. Each stands in the code here and nowhere else: the reader compares with it byte for byte, the writer
+// writes it.
 pub const RULESET: [u8; 7] = *b"ruleset";
 
 pub const RULE: [u8; 4] = *b"rule";

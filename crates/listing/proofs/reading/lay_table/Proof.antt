@@ -1,12 +1,12 @@
--- `listing::reading::lay` meets its contract: head, flags, records and parts.
+-- `listing::reading::lay_table` meets its contract: head, flags, records and parts.
 use mathlib.Core.Path.{_∙_}
 use native.Mathlib.Omega.{arith}
 use borrow.Author.Needs.{needs}
 use Rattle.listing.specs.Packing.{listedIn}
 use Rattle.listing.proofs.Lines.{listed-small}
 use Rattle.listing.proofs.Records.{head-room, flags-room, packed-laid}
-use Rattle.listing.proofs.reading.lay.Statement.{statement}
-use Rattle.listing.proofs.reading.lay.Tie as tie
+use Rattle.listing.proofs.reading.lay_table.Statement.{statement}
+use Rattle.listing.proofs.reading.lay_table.Tie as tie
 
 lay-three-requires : tie.Need-lay-three-requires
 lay-three-requires c κs = let z = listed-small (c .before .before .before .args .text .now) _ _ _ (c .before .before .before .pre .0) in (omega (arith, c .before .before .before .pre .1), (omega (arith, z), (omega (arith, z), omega (arith, z))))
@@ -23,8 +23,8 @@ same-length c = search needs
 returns : tie.Need-returns
 returns c = c .before .before .lay-rules .ensures ∙ packed-laid (c .before .before .before .before .before .before .before .before .before .before .before .before .before .before .args .text .now) _ _ _ (c .before .before .before .before .before .before .before .before .before .before .before .before .before .before .pre .0) (c .before .before .before .before .before .before .before .before .before .before .before .before .before .before .args .table .now) _ _ (c .before .before .before .before .before .before .before .before .before .before .lay-three .ensures) (c .before .before .before .before .before .before .lay-tops .ensures .0)
 
-pub lay-spec : {M : Type 1} → statement M
-lay-spec =
+pub lay-table-spec : {M : Type 1} → statement M
+lay-table-spec =
     tie.close
     (tie.spec
     lay-three-requires
