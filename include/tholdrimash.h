@@ -15,9 +15,9 @@
 #include <stdint.h>
 
 /* The version of this interface, and of the crate in rust/. */
-#define THOLDRIMASH_VERSION "0.1.0"
+#define THOLDRIMASH_VERSION "0.2.0"
 #define THOLDRIMASH_VERSION_MAJOR 0
-#define THOLDRIMASH_VERSION_MINOR 1
+#define THOLDRIMASH_VERSION_MINOR 2
 #define THOLDRIMASH_VERSION_PATCH 0
 
 #ifdef __cplusplus

@@ -73,7 +73,7 @@ pub fn tell_read(answer: ReadAnswer, room: &[u16]) {
 
 pub fn tell_written(answer: WriteAnswer, room: &[u8]) {
     match answer {
-        WriteAnswer::Written { bytes } => put_fields(0, words, 0),
+        WriteAnswer::Written { bytes } => put_fields(0, bytes, 0),
         WriteAnswer::BadTable => put_fields(2, 0, 0),
         WriteAnswer::NoRoom => put_fields(16, 0, 0),
     }

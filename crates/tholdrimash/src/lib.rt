@@ -158,7 +158,7 @@ fn write_fields(answer: WriteAnswer) -> TholdrimashAnswer
     ensures { λ r. ⌜ ((b : List ℕ) → told r b ≡ writeSays answer b) ⌝ }
 {
     match answer {
-        WriteAnswer::Written { bytes } => answer_of(0, 0, words, 0),
+        WriteAnswer::Written { bytes } => answer_of(0, 0, bytes, 0),
         WriteAnswer::BadTable => answer_of(2, 0, 0, 0),
         WriteAnswer::NoRoom => answer_of(16, 0, 0, 0),
     }
