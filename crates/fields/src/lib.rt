@@ -1,5 +1,5 @@
 // The fields of a listing: what they say, as the reader takes them, and their bytes, as the writer lays them. Inside `listing`:
-// a caller asks of places and sizes what the contracts ask for, and nothing is refused here.
+// what the contracts ask of places and sizes a caller proves, and nothing is refused here.
 pub mod reading;
 pub mod spelling;
 pub mod writing;

@@ -11,9 +11,7 @@ ghost use Rattle.fields.specs.Said.{Found, lowNumber, digitOf, exactWord
 // A ruleset's number is below 32, so it has two digits at most.
 const MOST_DIGITS: usize = 2;
 
-const TEN: usize = 10;
-
-// More than any number of so many digits.
+// What is said of a field that says no such number: more than any number of so many digits.
 const NO_NUMBER: usize = 100;
 
 // What is said of a field that says no part within the limits: no part's word.
@@ -54,16 +52,17 @@ pub fn is_word(text: &[u8], at: usize, end: usize, word: &[u8]) -> bool
     true
 }
 
+// A digit's value; 100 if the byte is none.
 fn digit(byte: u8) -> usize
     ensures answers { λ r. ⌜ r ≡ digitOf byte ⌝ }
 {
-    if byte < b'0' {
+    if byte < spelling::ZERO {
         return NO_NUMBER;
     }
-    if byte > b'9' {
+    if byte > spelling::NINE {
         return NO_NUMBER;
     }
-    (byte - b'0') as usize
+    (byte - spelling::ZERO) as usize
 }
 
 // The number below 100 whose decimal this is, without leading zeros; 100 if there is none.
@@ -83,16 +82,16 @@ pub fn number(text: &[u8], at: usize, end: usize) -> usize
     if tens == 0 {
         return NO_NUMBER;
     }
-    if tens >= TEN {
+    if tens >= spelling::TEN {
         return NO_NUMBER;
     }
-    if ones >= TEN {
+    if ones >= spelling::TEN {
         return NO_NUMBER;
     }
-    TEN * tens + ones
+    spelling::TEN * tens + ones
 }
 
-// The word of an exact part; 0 if the byte is none.
+// The word of an exact part; 0 if the byte is none. A byte is one if it is a part of a table that has no rulesets.
 fn exact(byte: u8) -> usize
     ensures answers { λ r. ⌜ r ≡ exactWord byte ⌝ }
 {

@@ -20,3 +20,10 @@ pub const SUB_LENGTH: usize = 3;
 pub const TAB: u8 = 9;
 
 pub const END: u8 = 10;
+
+// Numbers are decimal.
+pub const ZERO: u8 = b'0';
+
+pub const NINE: u8 = b'9';
+
+pub const TEN: usize = 10;

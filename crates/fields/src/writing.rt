@@ -10,11 +10,6 @@ ghost use Rattle.packing.specs.Data.{isPartOf};
 ghost use Rattle.printing.specs.Listing.{decimal, partField};
 ghost use Rattle.fields.specs.Laid.{Laid, Ready, partText};
 
-// Digits are from 48 on.
-const ZERO: usize = 48;
-
-const TEN: usize = 10;
-
 // Lays a byte, if there is room for it, and gives the place after it.
 pub fn put(text: &mut [u8], at: usize, byte: u8) -> usize
     requires { ⌜ Ready at (byte ∷ []) ⌝ }
@@ -27,6 +22,7 @@ pub fn put(text: &mut [u8], at: usize, byte: u8) -> usize
     next
 }
 
+// A word, byte by byte.
 pub fn put_word(text: &mut [u8], at: usize, word: &[u8]) -> usize
     requires { ⌜ Ready at (now word) ⌝ }
     ensures answers { λ r. ⌜ Laid (now (text .entry)) at (now (word .entry)) (now (text .exit)) r ⌝ }
@@ -46,13 +42,22 @@ pub fn put_number(text: &mut [u8], at: usize, number: usize) -> usize
     requires { ⌜ Ready at (decimal number) ⌝ }
     ensures answers { λ r. ⌜ Laid (now (text .entry)) at (decimal number) (now (text .exit)) r ⌝ }
 {
-    if number < TEN {
-        return put(text, at, (ZERO + number) as u8);
+    if number < spelling::TEN {
+        return put(text, at, (spelling::ZERO as usize + number) as u8);
     }
-    let to = put(text, at, (ZERO + number / TEN) as u8);
-    put(text, to, (ZERO + number % TEN) as u8)
+    let to = put(
+        text,
+        at,
+        (spelling::ZERO as usize + number / spelling::TEN) as u8,
+    );
+    put(
+        text,
+        to,
+        (spelling::ZERO as usize + number % spelling::TEN) as u8,
+    )
 }
 
+// A part's field: one character for an exact part, `ws`, `expr`, or `sub` with the ruleset's number.
 fn put_field(text: &mut [u8], at: usize, part: Part) -> usize
     requires { ⌜ isPartOf 32 part ≡ true ⌝ }
     requires { ⌜ Ready at (partField part) ⌝ }

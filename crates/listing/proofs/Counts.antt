@@ -1,4 +1,4 @@
--- The parts of a rule's fields counted, and one more ruleset or rule within the limits by the counts so far.
+-- The parts of a rule's fields counted, and one more rule within the limits by the counts so far.
 use mathlib.Core.Path.{_≡_, refl, sym, ap, ap₂, _∙_, subst}
 use mathlib.Core.Logic.{_⊎_, inl, inr}
 use mathlib.Core.Bool.{Bool, true, false, _&&_}

@@ -27,7 +27,7 @@ use Rattle.printing.proofs.Accepts.{checked-is, read-next, line-added, lines-ma
 use Rattle.printing.proofs.Refuses.{stops}
 use Rattle.fields.specs.Said.{Found, lowNumber}
 use Rattle.fields.proofs.Scans.{same-not, slice-cut}
-use Rattle.listing.specs.declared.judging.Sizes.{Sizes as Sums}
+use Rattle.listing.specs.declared.judging.Sizes.{Sizes}
 use Rattle.listing.specs.declared.judging.Line.{Line}
 use Rattle.listing.specs.declared.judging.Line.the-variants.{Fits, Bad}
 use Rattle.listing.specs.Judging.{fieldsAt, countFrom, Counted, LineSays}
@@ -349,5 +349,5 @@ bad-at {x} {k} {n} e h = (h .0 ∙ ap bad (sym e), omega (arith, e, h .1))
 pub says-bad : (o : Option Data) (r : Line) → r ≡ Bad → LineSays o r → o ≡ none
 says-bad o r e h = subst (LineSays o) e h
 
-pub says-fits : (o : Option Data) (r : Line) (z : Sums) → r ≡ Fits z → LineSays o r → (e : Data) × (o ≡ some e) × Counted e (z .sets) (z .rules) (z .parts) (z .last)
+pub says-fits : (o : Option Data) (r : Line) (z : Sizes) → r ≡ Fits z → LineSays o r → (e : Data) × (o ≡ some e) × Counted e (z .sets) (z .rules) (z .parts) (z .last)
 says-fits o r z e h = subst (LineSays o) e h

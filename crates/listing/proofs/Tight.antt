@@ -1,6 +1,6 @@
 -- How tight the promises are: any two answers that a contract allows on the same arguments are equal, in what is returned and
 -- in the lent memory at exit. Each law is stated over the contract itself, `Post`: reading's promise allows one thing to be
--- filled, since two data never have the same listing and a text has one first bad line; writing's is an equation; and an
+-- told, since two data never have the same listing and a text has one first bad line; writing's is an equation; and an
 -- answer's case is known by its number and fields.
 use mathlib.Core.Path.{_≡_, refl, sym, ap, _∙_}
 use mathlib.Core.List.{List}

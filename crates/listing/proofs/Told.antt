@@ -1,23 +1,23 @@
 -- What reading answers, case by case: a judged text is the listing of its data, and a refused one has its first bad line.
 use mathlib.Core.Path.{_≡_, refl, sym, ap, ap₂, _∙_, subst}
-use mathlib.Core.List.{List, flatMap, map, _++_}
+use mathlib.Core.List.{List}
 use Prim.Native.Nat.{ℕ, _≤_, _<_}
 use native.Mathlib.Omega.{arith}
-use lib.ListN.{length, length-append, length-map}
+use lib.ListN.{length}
 use lib.Seq.{sets}
 use borrow.Author.Tests.{le-leb, lt-leb}
 use Rattle.plain.specs.Told.{Told, refusedAt}
 use Rattle.plain.proofs.Sets.{sets-start}
 use Rattle.packing.specs.Data.{Data, partsOf}
-use Rattle.packing.specs.Packed.{flagOf, wordsOf, recordsOf, packed}
-use Rattle.packing.proofs.Packs.{records-length, words-length}
+use Rattle.packing.specs.Packed.{packed}
+use Rattle.packing.proofs.Packs.{packed-length}
 use Rattle.printing.specs.Listing.{Bytes}
 use Rattle.printing.specs.Reading.{good, read}
 use Rattle.printing.proofs.Accepts.{read-good, listings-apart}
 use Rattle.printing.proofs.Refuses.{read-bad, first-bad-one, not-good}
 use Rattle.listing.specs.declared.reading.ReadAnswer.{ReadAnswer}
 use Rattle.listing.specs.declared.reading.ReadAnswer.the-variants.{Read, BadText, NoRoom}
-use Rattle.listing.specs.declared.judging.Sizes.{Sizes as Sums}
+use Rattle.listing.specs.declared.judging.Sizes.{Sizes}
 use Rattle.listing.specs.declared.judging.Judged.{Judged}
 use Rattle.listing.specs.declared.judging.Judged.the-variants.{Good, BadAt}
 use Rattle.listing.specs.Judging.{Judges}
@@ -25,24 +25,11 @@ use Rattle.listing.specs.Packing.{heldBy, listedIn, Listed, wordsFor}
 use Rattle.listing.specs.Calls.{filled, wrote, ReadCall, listed, unlisted, readSays}
 
 -- how many words there are
-pub packed-many : (t : Bytes) (s r p : ℕ) → Listed t s r p → wordsFor s r p ≡ length (packed (listedIn t))
-unfolding packed
-packed-many t s r p h =
-    let d = listedIn t in
-    omega (
-      arith,
-      h .tops,
-      h .rules,
-      h .parts,
-      length-append (map flagOf (d .tops)) (recordsOf 0 (d .rules) ++ flatMap wordsOf (d .rules)),
-      length-append (recordsOf 0 (d .rules)) (flatMap wordsOf (d .rules)),
-      length-map (d .tops) flagOf,
-      records-length 0 (d .rules),
-      words-length (d .rules),
-    )
+packed-many : (t : Bytes) (s r p : ℕ) → Listed t s r p → wordsFor s r p ≡ length (packed (listedIn t))
+packed-many t s r p h = omega (arith, h .tops, h .rules, h .parts, packed-length (listedIn t))
 
 -- a judged text
-pub said-listed : (t : Bytes) (j : Judged) (z : Sums) → j ≡ Good z → Judges (read t) j → Listed t (z .sets) (z .rules) (z .parts)
+pub said-listed : (t : Bytes) (j : Judged) (z : Sizes) → j ≡ Good z → Judges (read t) j → Listed t (z .sets) (z .rules) (z .parts)
 said-listed t j z e h = go (subst (Judges (read t)) e h)
   where
     go : Judges (read t) (Good z) → Listed t (z .sets) (z .rules) (z .parts)

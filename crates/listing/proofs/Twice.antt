@@ -1,6 +1,6 @@
 -- Two calls in a row: a text read and written again, and a table written and read again. First over what calls tell, then over
 -- the contracts, whatever the room of either call was.
-use mathlib.Core.Path.{_≡_, refl, ap, _∙_, subst}
+use mathlib.Core.Path.{_≡_, refl, sym, ap, _∙_, subst}
 use mathlib.Core.Bool.{Bool, true, false}
 use mathlib.Core.List.{List}
 use Prim.Native.Nat.{ℕ}
@@ -15,6 +15,7 @@ use Rattle.plain.specs.Told.{Told, refusedAt}
 use Rattle.defs.specs.Table.{tableFits}
 use Rattle.packing.specs.Packed.{packed, dataOf}
 use Rattle.printing.specs.Listing.{Bytes, listing}
+use Rattle.printing.proofs.Accepts.{listings-apart}
 use Rattle.printing.proofs.Rounds.{text-again, table-again}
 use Rattle.listing.specs.declared.reading.ReadAnswer.{ReadAnswer}
 use Rattle.listing.specs.declared.reading.ReadAnswer.the-variants as reading
@@ -55,6 +56,22 @@ write-then-read t text room w r e z c = go (tableFits t) refl e
         (listed (dataOf t) (table-again t fits .0) refl refl)
     go false fits q = absurd (omega (arith, z, ap (λ (x : Told). x .number) q))
 
+-- only an accepted table is written
+pub written-fits : (t room : List ℕ) (n : ℕ) (b : List ℕ) → filled n b ≡ writeCall t room → tableFits t ≡ true
+unfolding writeCall
+written-fits t room n b e = go (tableFits t) refl e
+  where
+    go : (q : Bool) → tableFits t ≡ q → filled n b ≡ select q (wrote (listing (dataOf t)) room) (refusedAt 2 0 room) → tableFits t ≡ true
+    go true f h = f
+    go false f h = let two : _≡_ {A = ℕ} 0 2 = ap (λ (r : Told). r .number) h in absurd (omega (arith, two))
+
+-- and its listing is what is written
+written-listing : (t room : List ℕ) (n : ℕ) (b : List ℕ) → filled n b ≡ writeCall t room → take n b ≡ listing (dataOf t)
+unfolding writeCall
+written-listing t room n b e =
+    wrote-whole (listing (dataOf t)) room (filled n b)
+    (e ∙ ap (λ (q : Bool). select q (wrote (listing (dataOf t)) room) (refusedAt 2 0 room)) (written-fits t room n b e)) refl
+
 -- ---- the calls themselves
 
 pub text-survives : (κs a : _) (n : ℕ) (x : _) → read-table.Post κs a (reading.Read n) x → (λs b : _) (s : WriteAnswer) (y : _) → write-table.Post λs b s y
@@ -67,3 +84,12 @@ pub table-survives : (κs a : _) (n : ℕ) (x : _) → write-table.Post κs a (w
 table-survives κs a n x p λs b s y q e =
     write-then-read (now (a .0)) (now (a .1 .0)) (now (b .1 .0)) (filled n (now (x .1 .0))) (readSays s (now (y .1 .0))) p refl
     (subst (λ (t : List ℕ). ReadCall t (now (b .1 .0)) (readSays s (now (y .1 .0)))) e q)
+
+-- two tables that are written alike have the same rulesets and rules
+pub texts-apart : (κs a : _) (n : ℕ) (x : _) → write-table.Post κs a (writing.Written n) x → (λs b : _) (m : ℕ) (y : _) → write-table.Post λs b (writing.Written m) y
+    → take n (now (x .1 .0)) ≡ take m (now (y .1 .0)) → dataOf (now (a .0)) ≡ dataOf (now (b .0))
+texts-apart κs a n x p λs b m y q e =
+    listings-apart (dataOf (now (a .0))) (dataOf (now (b .0)))
+    (table-again (now (a .0)) (written-fits (now (a .0)) (now (a .1 .0)) n (now (x .1 .0)) p) .0)
+    (table-again (now (b .0)) (written-fits (now (b .0)) (now (b .1 .0)) m (now (y .1 .0)) q) .0)
+    (sym (written-listing (now (a .0)) (now (a .1 .0)) n (now (x .1 .0)) p) ∙ e ∙ written-listing (now (b .0)) (now (b .1 .0)) m (now (y .1 .0)) q)

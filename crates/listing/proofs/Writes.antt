@@ -7,7 +7,7 @@ use native.Mathlib.Decide.{decLt}
 use native.Mathlib.Omega.{arith}
 use lib.Dec.{eqb, leb, ltb}
 use lib.ListN.{length, length-append}
-use borrow.Author.Tests.{ltb-true, lt-ltb, le-leb, lt-leb}
+use borrow.Author.Tests.{leb-true, ltb-true, lt-ltb, le-leb, lt-leb}
 use Rattle.plain.specs.Lists.{range, count, listed, every}
 use Rattle.plain.proofs.Tests.{and-left, and-right, and-both}
 use Rattle.plain.proofs.Sets.{sets-start}
@@ -157,34 +157,36 @@ decimal-short n h = go (decLt n 10)
     go (yes l) = omega (arith, ap length (decimal-one n l))
     go (no l) = omega (arith, ap length (decimal-two n (omega (arith, l)) h))
 
-field-short : (s : ℕ) (p : Part) → s ≤ 32 → isPartOf s p ≡ true → length (partText p) ≤ 6
-field-short s (Exact b) l h = omega arith
-field-short s Whitespace l h = omega arith
-field-short s Expression l h = omega arith
-field-short s (Nested r) l h = omega (arith, decimal-short r (omega (arith, ltb-true r s h)))
-
-fields-short : (s : ℕ) (ps : List Part) → s ≤ 32 → every (isPartOf s) ps ≡ true → length (partsText ps) ≤ 6 * length ps
-unfolding every partsText flatMap
+-- a parameter's field takes six bytes at most with its tab, another's three
+fields-short : (s : ℕ) (ps : List Part) → s ≤ 32 → every (isPartOf s) ps ≡ true → length (partsText ps) ≤ 3 * length ps + 3 * count isParameter ps
+unfolding every partsText flatMap count
 fields-short s [] l h = omega arith
-fields-short s (p ∷ ps) l h =
-    omega
-    (arith, length-append (partText p) (partsText ps), field-short s p l (and-left (isPartOf s p) _ h), fields-short s ps l (and-right (isPartOf s p) _ h))
+fields-short s (p ∷ ps) l h = go p (and-left (isPartOf s p) _ h) (fields-short s ps l (and-right (isPartOf s p) _ h))
+  where
+    go : (q : Part) → isPartOf s q ≡ true → length (partsText ps) ≤ 3 * length ps + 3 * count isParameter ps
+        → length (partText q ++ partsText ps) ≤ 3 * length (q ∷ ps) + 3 * count isParameter (q ∷ ps)
+    go (Exact b) e i = omega (arith, i)
+    go Whitespace e i = omega (arith, i)
+    go Expression e i = omega (arith, i)
+    go (Nested r) e i =
+        omega (arith, i, length-append (partText (Nested r)) (partsText ps), decimal-short r (omega (arith, ltb-true r s e)))
 
-rules-short : (s : ℕ) (rs : List Rule) → s ≤ 32 → every (ruleFits s) rs ≡ true → length (ended (map ruleLine rs)) ≤ 8 * length rs + 6 * partsOf rs
+rules-short : (s : ℕ) (rs : List Rule) → s ≤ 32 → every (ruleFits s) rs ≡ true → length (ended (map ruleLine rs)) ≤ 32 * length rs + 3 * partsOf rs
 unfolding every ended partsOf ruleFits parted
 rules-short s [] l h = omega arith
 rules-short s (r ∷ rs) l h =
     let fits = and-left (ruleFits s r) _ h in
     let low = ltb-true (r .set) s (and-left (ltb (r .set) s) _ fits) in
-    let parts = and-right (leb (count isParameter (r .parts)) 8) _ (and-right (leb (length (r .parts)) 64) _ (and-right (ltb (r .set) s) _ fits)) in
+    let rest = and-right (leb (length (r .parts)) 64) _ (and-right (ltb (r .set) s) _ fits) in
     omega (
       arith,
       low,
+      leb-true (count isParameter (r .parts)) 8 (and-left (leb (count isParameter (r .parts)) 8) _ rest),
       length-append (ruleLine r) (10 ∷ ended (map ruleLine rs)),
       ap length (parted-tabs (decimal (r .set)) (r .parts)),
       length-append (decimal (r .set)) (partsText (r .parts)),
       decimal-short (r .set) (omega arith),
-      fields-short s (r .parts) l parts,
+      fields-short s (r .parts) l (and-right (leb (count isParameter (r .parts)) 8) _ rest),
       rules-short s rs l (and-right (ruleFits s r) _ h),
     )
 
@@ -194,8 +196,8 @@ tops-short [] = omega arith
 tops-short (true ∷ ts) = omega (arith, length-append (topLine true) (10 ∷ ended (map topLine ts)), tops-short ts)
 tops-short (false ∷ ts) = omega (arith, length-append (topLine false) (10 ∷ ended (map topLine ts)), tops-short ts)
 
--- a listing has at most 53,728 bytes
-pub listing-short : (d : Data) → dataFits d ≡ true → length (listing d) ≤ 53728
+-- a listing has at most 41,440 bytes
+pub listing-short : (d : Data) → dataFits d ≡ true → length (listing d) ≤ 41440
 unfolding listing linesOf
 listing-short d h =
     let f = fits-all (d .tops) (d .rules) h in

@@ -1,17 +1,15 @@
 -- What the judging pass finds, line by line.
 use mathlib.Core.Path.{_≡_}
-use mathlib.Core.Bool.{true}
 use mathlib.Core.List.{List, [], _∷_}
-use mathlib.Core.Logic.{_⊎_}
 use mathlib.Core.Option.{Option, none, some}
 use Prim.Native.Nat.{ℕ, _+_, _≤_}
 use lib.Dec.{eqb, leb, ltb}
 use lib.ListN.{length}
 use lib.Seq.{slice}
 use Rattle.plain.specs.Choice.{select}
-use Rattle.packing.specs.Data.{Data, lastOf, partsOf, dataFits}
+use Rattle.packing.specs.Data.{Data, lastOf, partsOf}
 use Rattle.printing.specs.Listing.{Bytes}
-use Rattle.printing.specs.Reading.{pieces, nothing, Read, good, bad}
+use Rattle.printing.specs.Reading.{Reached, pieces, Read, good, bad}
 use Rattle.fields.specs.Said.{saidWord}
 use Rattle.listing.specs.declared.judging.Judged.{Judged}
 use Rattle.listing.specs.declared.judging.Judged.the-variants.{Good, BadAt}
@@ -33,7 +31,7 @@ countFrom s k p (f ∷ fs) =
 
 -- S, R, P and the last rule's ruleset of the data to which they are read
 pub record Counted (d : Data) (s r p l : ℕ) : Type 0 where
-  pub reached : (d ≡ nothing) ⊎ (dataFits d ≡ true)
+  pub reached : Reached d
   pub sets : s ≡ length (d .tops)
   pub rules : r ≡ length (d .rules)
   pub parts : p ≡ partsOf (d .rules)

@@ -15,6 +15,9 @@ ghost use Rattle.packing.specs.Data.{Data};
 ghost use Rattle.printing.specs.Reading.{pieces, topIn, ruleIn, addTop, addRule, readLine, read};
 ghost use Rattle.listing.specs.Judging.{fieldsAt, countFrom, Counted, Countable, LineSays, Judges};
 
+// What is counted of a rule's parts that are refused: more than a rule may have.
+const TOO_MANY: usize = ruledef::MOST_PARTS_A_RULE + 1;
+
 // What the lines so far have: S, R, P, and the last rule's ruleset.
 pub struct Sizes {
     pub sets: usize,
@@ -35,8 +38,8 @@ pub enum Line {
     Bad,
 }
 
-// How many parts a rule's fields say, from a tab to the line's end; 65 if there are more than 64, or more than 8
-// parameters, or some field says no part within the limits.
+// How many parts a rule's fields say, from a tab to the line's end; `TOO_MANY` if there are more than 64, or
+// more than 8 parameters, or some field says no part within the limits.
 fn judge_parts(text: &[u8], at: usize, end: usize, sets: usize) -> usize
     requires { ⌜ at ≤ end ⌝ }
     requires { ⌜ end ≤ length (now text) ⌝ }
@@ -51,11 +54,11 @@ fn judge_parts(text: &[u8], at: usize, end: usize, sets: usize) -> usize
         tab = find(text, from, end, spelling::TAB);
         let word = part_word(text, from, tab, sets);
         if word == NO_PART {
-            return ruledef::MOST_PARTS_A_RULE + 1;
+            return TOO_MANY;
         }
         count = count + 1;
         if count > ruledef::MOST_PARTS_A_RULE {
-            return ruledef::MOST_PARTS_A_RULE + 1;
+            return TOO_MANY;
         }
         // Of the words of parts, those of parameters are the greatest.
         if word > ruledef::WHITESPACE {
@@ -63,7 +66,7 @@ fn judge_parts(text: &[u8], at: usize, end: usize, sets: usize) -> usize
         }
     }
     if parameters > ruledef::MOST_PARAMETERS {
-        return ruledef::MOST_PARTS_A_RULE + 1;
+        return TOO_MANY;
     }
     count
 }
@@ -131,7 +134,7 @@ fn judge_rule(text: &[u8], at: usize, end: usize, sizes: Sizes) -> Line
     })
 }
 
-// One more line.
+// One more line, by its first field: a ruleset's or a rule's.
 fn judge_line(text: &[u8], at: usize, end: usize, sizes: Sizes) -> Line
     requires { ⌜ at ≤ end ⌝ }
     requires { ⌜ end ≤ length (now text) ⌝ }
@@ -161,7 +164,7 @@ fn next_line(sizes: Sizes) -> usize
     sizes.sets + sizes.rules
 }
 
-// The whole text.
+// The whole text, line by line: the first that is bad, or how much there is.
 pub fn judge(text: &[u8]) -> Judged
     ensures says { λ r. ⌜ Judges (read (now (text .entry))) r ⌝ }
 {

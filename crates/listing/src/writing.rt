@@ -61,6 +61,7 @@ fn put_rule(table: &[u16], rule: u16, text: &mut [u8], at: usize) -> usize
     put(text, end, spelling::END)
 }
 
+// The lines of all rules, in table order.
 fn put_rules(table: &[u16], text: &mut [u8], at: usize) -> usize
     requires { ⌜ tableFits (now table) ≡ true ⌝ }
     requires { ⌜ Ready at (rulesText (now table) 0 (recordsIn (now table))) ⌝ }
@@ -99,6 +100,7 @@ fn put_top(text: &mut [u8], at: usize, top: bool) -> usize
     put(text, end, spelling::END)
 }
 
+// The lines of all rulesets.
 fn put_tops(table: &[u16], text: &mut [u8]) -> usize
     requires { ⌜ tableFits (now table) ≡ true ⌝ }
     requires { ⌜ Ready 0 (topsText (now table) 0 (rulesetsIn (now table))) ⌝ }
@@ -124,7 +126,7 @@ fn put_table(table: &[u16], text: &mut [u8]) -> usize
     put_rules(table, text, to)
 }
 
-// How long an accepted table's listing is.
+// How long an accepted table's listing is: where it would end if it were laid into this one byte.
 fn measure(table: &[u16]) -> usize
     requires { ⌜ tableFits (now table) ≡ true ⌝ }
     ensures { λ r. ⌜ r ≡ length (listing (dataOf (now (table .entry)))) ⌝ }

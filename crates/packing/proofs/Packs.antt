@@ -19,7 +19,7 @@ use Rattle.defs.specs.Table.{wordAt, partsIn, partsFrom, flagAt, fieldAt, rules
 use Rattle.defs.specs.Ruledef.{isTop}
 use Rattle.defs.specs.declared.ruledef.Part.{Part}
 use Rattle.defs.specs.declared.ruledef.Part.the-variants.{Exact, Whitespace, Expression, Nested}
-use Rattle.packing.specs.Data.{Rule, wordOf, isPartOf, ruleFits, ascend, partsOf, dataFits, dataFrom, rule}
+use Rattle.packing.specs.Data.{Data, Rule, wordOf, isPartOf, ruleFits, ascend, partsOf, dataFits, dataFrom, rule}
 use Rattle.packing.specs.Packed.{flagOf, wordsOf, recordsOf, packed, ruleAt, dataOf}
 use Rattle.packing.proofs.Limits.{sizes-range, Fits, fits-all, partsOf-append}
 use Rattle.packing.proofs.Tables.{partsOf-listed, ascend-listed, parts-count, all-accepted}
@@ -53,6 +53,22 @@ pub words-length : (xs : List Rule) → length (flatMap wordsOf xs) ≡ partsOf 
 unfolding flatMap partsOf
 words-length [] = refl
 words-length (x ∷ xs) = omega (arith, length-append (wordsOf x) (flatMap wordsOf xs), length-map (x .parts) wordOf, words-length xs)
+
+-- how many words there are: at most 9,763 within the limits
+pub packed-length : (d : Data) → length (packed d) ≡ 3 + length (d .tops) + 3 * length (d .rules) + partsOf (d .rules)
+unfolding packed
+packed-length d =
+    omega (
+      arith,
+      length-append (map flagOf (d .tops)) (recordsOf 0 (d .rules) ++ flatMap wordsOf (d .rules)),
+      length-append (recordsOf 0 (d .rules)) (flatMap wordsOf (d .rules)),
+      length-map (d .tops) flagOf,
+      records-length 0 (d .rules),
+      words-length (d .rules),
+    )
+
+pub packed-short : (d : Data) → dataFits d ≡ true → length (packed d) ≤ 9763
+packed-short d h = omega (arith, packed-length d, fits-all (d .tops) (d .rules) h .sizes)
 
 -- ---- one rule of them
 

@@ -88,12 +88,12 @@ read-tops rs (u ∷ us) ts k ls h f =
     ∙ read-tops rs us (ts ++ (u ∷ [])) (suc k) ls h whole
     ∙ ap₂ (λ (m : ℕ) (l : List Bool). readFrom m (dataFrom l []) ls) n joined
 
--- the lines of data within the limits are read to that data
 -- a listing has a line for each ruleset and each rule
 pub lines-many : (d : Data) → length (linesOf d) ≡ length (d .tops) + length (d .rules)
 unfolding linesOf
 lines-many d = omega (arith, length-append (map topLine (d .tops)) (map ruleLine (d .rules)), length-map (d .tops) topLine, length-map (d .rules) ruleLine)
 
+-- the lines of data within the limits are read to that data
 pub read-lines : (d : Data) (ls : List Bytes) → 0 < length ls → dataFits d ≡ true → readFrom 0 nothing (linesOf d ++ ls) ≡ readFrom (length (linesOf d)) d ls
 unfolding linesOf
 read-lines d ls h f =

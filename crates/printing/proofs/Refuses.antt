@@ -1,6 +1,6 @@
 -- What is refused gets its first bad line: the lines before it begin some listing of data within the limits, with it none.
 use mathlib.Core.Path.{_≡_, refl, sym, ap, _∙_, subst}
-use mathlib.Core.Logic.{_⊎_, inl, inr}
+use mathlib.Core.Logic.{inl, inr}
 use mathlib.Core.Bool.{Bool, true, false, _&&_}
 use mathlib.Core.List.{List, [], _∷_, _++_, append-nil, append-assoc}
 use mathlib.Core.Option.{Option, none, some}
@@ -16,14 +16,10 @@ use Rattle.plain.proofs.Every.{every-append}
 use Rattle.defs.specs.Table.{inRange}
 use Rattle.packing.specs.Data.{Data, ascend, partsOf, dataFits, dataFrom}
 use Rattle.printing.specs.Listing.{Bytes, parted, ended, linesOf, listing}
-use Rattle.printing.specs.Reading.{same, pieces, readLine, Read, good, bad, next, readFrom, nothing, read}
+use Rattle.printing.specs.Reading.{Reached, same, pieces, readLine, Read, good, bad, next, readFrom, nothing, read}
 use Rattle.printing.specs.FirstBad.{lacks, Begins, FirstBad, bad-line, bad-end}
 use Rattle.printing.proofs.Pieces.{piece-last, pieces-some, parted-pieces, pieces-lack, pieces-ended, parted-ended, ended-append}
 use Rattle.printing.proofs.Accepts.{good-bad, read-lines, lines-lack, read-listing, read-good, line-added}
-
--- data to which lines are read: none yet, or within the limits
-abbrev Reached : Data → Type 0
-Reached d = (d ≡ nothing) ⊎ (dataFits d ≡ true)
 
 begins : (d : Data) → Reached d → Begins (ended (linesOf d))
 unfolding listing linesOf ended dataFits inRange partsOf ascend every

@@ -1,4 +1,6 @@
 -- Reading a listing, line by line: the data, or the first bad line's number.
+use mathlib.Core.Path.{_≡_}
+use mathlib.Core.Logic.{_⊎_}
 use mathlib.Core.Bool.{Bool, true, false, _&&_}
 use mathlib.Core.List.{List, [], _∷_, _++_}
 use mathlib.Core.Option.{Option, none, some}
@@ -114,6 +116,10 @@ readFrom k d (line ∷ (more ∷ lines)) = next k (readLine d line) (λ e. readF
 
 abbrev pub nothing : Data
 nothing = record { tops = []; rules = [] }
+
+-- data to which lines are read: none yet, or within the limits
+abbrev pub Reached : Data → Type 0
+Reached d = (d ≡ nothing) ⊎ (dataFits d ≡ true)
 
 unfoldable pub read : Bytes → Read
 read text = readFrom 0 nothing (pieces 10 text)

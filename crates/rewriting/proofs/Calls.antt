@@ -1,21 +1,15 @@
 -- A table written, and read again, answers every line as before: the contracts of the calls, one after another. The rewritten
 -- table is the table's data packed anew, so what the next call is promised of it is what it is promised of the table itself.
-use mathlib.Core.Path.{_≡_, refl, sym, ap, _∙_}
-use mathlib.Core.Bool.{Bool, true, false}
+use mathlib.Core.Path.{_≡_, refl, ap, _∙_}
 use mathlib.Core.List.{List}
 use Prim.Native.Nat.{ℕ}
-use native.Mathlib.Omega.{arith}
 use lib.ListN.{take}
 use denote.Ref.{now}
-use Rattle.plain.specs.Choice.{select}
-use Rattle.plain.specs.Told.{Told, refusedAt}
-use Rattle.defs.specs.Table.{tableFits}
 use Rattle.packing.specs.Packed.{packed, dataOf}
-use Rattle.printing.specs.Listing.{listing}
 use Rattle.listing.specs.declared.reading.ReadAnswer.the-variants as reading
 use Rattle.listing.specs.declared.writing.WriteAnswer.the-variants as writing
-use Rattle.listing.specs.Calls.{filled, wrote, writeCall}
-use Rattle.listing.proofs.Twice.{wrote-whole, table-survives}
+use Rattle.listing.specs.Calls.{filled}
+use Rattle.listing.proofs.Twice.{wrote-whole, written-fits, table-survives}
 use Rattle.listing.proofs.reading.read_table.Reads as read-table
 use Rattle.listing.proofs.writing.write_table.Reads as write-table
 use Rattle.ruledef_map.specs.RuledefMap.{linePrefix}
@@ -28,15 +22,6 @@ use Rattle.matcher.specs.Told.{says}
 use Rattle.matcher.proofs.match_instr.Reads as match-instr
 use Rattle.matcher.proofs.match_with_ruledef_map.Reads as match-with-ruledef-map
 use Rattle.rewriting.proofs.Rewriting.{rewritten-call}
-
--- only an accepted table is written
-pub written-fits : (t text : List ℕ) (n : ℕ) (b : List ℕ) → filled n b ≡ writeCall t text → tableFits t ≡ true
-unfolding writeCall
-written-fits t text n b e = go (tableFits t) refl e
-  where
-    go : (q : Bool) → tableFits t ≡ q → filled n b ≡ select q (wrote (listing (dataOf t)) text) (refusedAt 2 0 text) → tableFits t ≡ true
-    go true f h = f
-    go false f h = let two : _≡_ {A = ℕ} 0 2 = ap (λ (r : Told). r .number) h in absurd (omega (arith, two))
 
 module _ (κs a : _) (n : ℕ) (x : _) (written : write-table.Post κs a (writing.Written n) x) (λs b : _) (m : ℕ) (y : _) (read : read-table.Post λs b (reading.Read m) y)
     (same : now (b .0) ≡ take n (now (x .1 .0))) where

@@ -15,7 +15,6 @@ returns-2 c = sym (digit-no (c .before .before .args .byte) (λ x y. omega (arit
 cast-result : tie.Need-cast-result
 cast-result c = search needs
 
--- src/reading.rt:56:1
 returns-3 : tie.Need-returns-3
 returns-3 c = sym (digit-yes (c .before .before .args .byte) (c .before .if1 .left) (c .if2 .left))
 

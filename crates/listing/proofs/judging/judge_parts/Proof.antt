@@ -2,7 +2,6 @@
 use mathlib.Core.Path.{_≡_, refl, sym, ap, _∙_}
 use Prim.Native.Nat.{_≤_, _-_}
 use native.Mathlib.Omega.{arith}
-use borrow.Author.Needs.{needs}
 use Rattle.listing.specs.Judging.{fieldsAt, countFrom}
 use Rattle.listing.proofs.Counts.{fields-over, fields-next, count-no-part, count-many, count-parameter, count-other, count-few, count-over}
 use Rattle.listing.proofs.judging.judge_parts.Statement.{statement}
@@ -27,17 +26,11 @@ find-requires c κs = (omega arith, omega arith)
 part-word-requires : tie.Need-part-word-requires Inv-loop μ-loop
 part-word-requires c κs = (c .find .ensures .from, (omega (arith, c .find .ensures .to), c .before .before .before .before .pre .1 .1))
 
-add-result : tie.Need-add-result Inv-loop μ-loop
-add-result c = search needs
-
 returns : tie.Need-returns Inv-loop μ-loop
 returns c = count-no-part (c .before .before .before .before .before .before .args .sets) (c .before .before .before .before .loop .count) (c .before .before .before .before .loop .parameters) (c .before .part-word .result) _ (fieldsAt (c .before .before .before .before .before .before .args .text .now) (c .before .before .find .result) (c .before .before .before .before .before .before .args .end)) (c .before .part-word .ensures) (c .if1 .taken) ∙ sym (ap (countFrom (c .before .before .before .before .before .before .args .sets) (c .before .before .before .before .loop .count) (c .before .before .before .before .loop .parameters)) (fields-next (c .before .before .before .before .before .before .args .text .now) (c .before .before .before .before .loop .tab) (c .before .before .before .before .before .before .args .end) (c .before .before .find .result) (c .before .before .before .before .before .before .pre .1 .0) (c .before .before .before .loop-test .taken) (c .before .before .find .ensures))) ∙ c .before .before .before .before .loop .inv .0
 
 add-count : tie.Need-add-count Inv-loop μ-loop
 add-count c = omega arith
-
-add-result-2 : tie.Need-add-result-2 Inv-loop μ-loop
-add-result-2 c = search needs
 
 returns-2 : tie.Need-returns-2 Inv-loop μ-loop
 returns-2 c = count-many (c .before .before .before .before .before .before .before .args .sets) (c .before .before .before .before .before .loop .count) (c .before .before .before .before .before .loop .parameters) (c .before .before .part-word .result) _ (fieldsAt (c .before .before .before .before .before .before .before .args .text .now) (c .before .before .before .find .result) (c .before .before .before .before .before .before .before .args .end)) (c .before .before .part-word .ensures) (c .before .if1 .left) (c .if2 .taken) ∙ sym (ap (countFrom (c .before .before .before .before .before .before .before .args .sets) (c .before .before .before .before .before .loop .count) (c .before .before .before .before .before .loop .parameters)) (fields-next (c .before .before .before .before .before .before .before .args .text .now) (c .before .before .before .before .before .loop .tab) (c .before .before .before .before .before .before .before .args .end) (c .before .before .before .find .result) (c .before .before .before .before .before .before .before .pre .1 .0) (c .before .before .before .before .loop-test .taken) (c .before .before .before .find .ensures))) ∙ c .before .before .before .before .before .loop .inv .0
@@ -57,9 +50,6 @@ loop-less-2 c = omega (arith, c .before .before .before .before .find .ensures .
 loop-again-2 : tie.Need-loop-again-2 Inv-loop μ-loop
 loop-again-2 c = (count-other (c .before .before .before .before .before .before .before .before .args .sets) (c .before .before .before .before .before .before .loop .count) (c .before .before .before .before .before .before .loop .parameters) (c .before .before .before .part-word .result) _ (fieldsAt (c .before .before .before .before .before .before .before .before .args .text .now) (c .before .before .before .before .find .result) (c .before .before .before .before .before .before .before .before .args .end)) (c .before .before .before .part-word .ensures) (c .before .before .if1 .left) (c .before .if2 .left) (c .if3 .left) ∙ sym (ap (countFrom (c .before .before .before .before .before .before .before .before .args .sets) (c .before .before .before .before .before .before .loop .count) (c .before .before .before .before .before .before .loop .parameters)) (fields-next (c .before .before .before .before .before .before .before .before .args .text .now) (c .before .before .before .before .before .before .loop .tab) (c .before .before .before .before .before .before .before .before .args .end) (c .before .before .before .before .find .result) (c .before .before .before .before .before .before .before .before .pre .1 .0) (c .before .before .before .before .before .loop-test .taken) (c .before .before .before .before .find .ensures))) ∙ c .before .before .before .before .before .before .loop .inv .0, c .before .before .before .before .find .ensures .to, c .before .if2 .left, omega arith)
 
-add-result-3 : tie.Need-add-result-3 Inv-loop μ-loop
-add-result-3 c = search needs
-
 returns-3 : tie.Need-returns-3 Inv-loop μ-loop
 returns-3 c = count-over (c .before .before .before .before .args .sets) (c .before .before .loop .count) (c .before .before .loop .parameters) (c .if4 .taken) ∙ sym (ap (countFrom (c .before .before .before .before .args .sets) (c .before .before .loop .count) (c .before .before .loop .parameters)) (fields-over (c .before .before .before .before .args .text .now) (c .before .before .loop .tab) (c .before .before .before .before .args .end) (c .before .loop-test .left))) ∙ c .before .before .loop .inv .0
 
@@ -76,16 +66,13 @@ judge-parts-spec =
     add-from
     find-requires
     part-word-requires
-    add-result
     returns
     add-count
-    add-result-2
     returns-2
     add-parameters
     loop-less
     loop-again
     loop-less-2
     loop-again-2
-    add-result-3
     returns-3
     returns-4)
