@@ -136,7 +136,7 @@ tholdrimash_selection tholdrimash_select(uint32_t *outcomes, size_t outcomes_len
  *
  * The table's limits hold: 1 to 32 rulesets, at most 512 rules, 64 parts and 8 parameters a rule, 8,192 parts together;
  * rules in nondecreasing ruleset order; each ruleset's number below the number of rulesets. Rulesets and rules within them
- * have one listing, and no others have the same. A listing has at most 53,728 bytes and a table at most 9,763 words, so that
+ * have one listing, and no others have the same. A listing has at most 41,440 bytes and a table at most 9,763 words, so that
  * much room is always enough.
  */
 

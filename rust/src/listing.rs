@@ -7,7 +7,7 @@ use std::fmt;
 /// What reading returns: number 0, or the refusal.
 ///
 /// [`written`](ReadAnswer::written) parts the two, so that a refusal is an error for `?`.
-/// docs/MANUAL.md, chapter 10, says what to do about each refusal.
+/// docs/MANUAL.md, chapter 8, says what to do about each refusal.
 #[must_use]
 #[derive(Clone, Copy, Debug, PartialEq, Eq, Hash)]
 pub enum ReadAnswer {
@@ -63,7 +63,7 @@ impl Error for ReadAnswer {}
 /// What writing returns: number 0, or the refusal.
 ///
 /// [`written`](WriteAnswer::written) parts the two, so that a refusal is an error for `?`.
-/// docs/MANUAL.md, chapter 10, says what to do about each refusal.
+/// docs/MANUAL.md, chapter 8, says what to do about each refusal.
 #[must_use]
 #[derive(Clone, Copy, Debug, PartialEq, Eq, Hash)]
 pub enum WriteAnswer {
@@ -112,8 +112,8 @@ impl Error for WriteAnswer {}
 /// A table has at most so many words: 3 + 32 + 3 * 512 + 8,192.
 pub const MOST_WORDS: usize = 9_763;
 
-/// A listing has at most so many bytes.
-pub const MOST_BYTES: usize = 53_728;
+/// A listing has at most so many bytes, and one has that many.
+pub const MOST_BYTES: usize = 41_440;
 
 /// Reads a table from its listing.
 ///

@@ -177,7 +177,7 @@ fn most_room() {
     let parts = " ws".repeat(8) + &" sub31".repeat(8);
     let long = "ruleset nested|".repeat(32) + &format!("rule 10{parts}|").repeat(512);
     assert_eq!(good(&text(&long)).len(), MOST_WORDS);
-    assert!(long.len() <= MOST_BYTES);
+    assert_eq!(long.len(), MOST_BYTES);
 }
 
 #[test]

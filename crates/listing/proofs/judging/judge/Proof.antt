@@ -53,7 +53,7 @@ next-line-requires-3 : tie.Need-next-line-requires-3 Inv-loop μ-loop
 next-line-requires-3 c κs = let z = few-sizes (c .before .before .before .before .before .args .text .now) (c .before .before .before .loop .at) _ _ _ _ (c .before .before .before .loop .inv) in (z .0, z .1)
 
 returns-3 : tie.Need-returns-3 Inv-loop μ-loop
-returns-3 c = bad-at (c .next-line3 .ensures) (from-none (c .before .before .before .before .before .before .args .text .now) (c .before .before .before .before .loop .at) _ _ _ _ (c .before .before .before .before .loop .inv) (omega (arith, c .before .before .before .loop-test .left)) (omega (arith, c .before .if2 .taken)))
+returns-3 c = bad-at (c .next-line3 .ensures) (from-none (c .before .before .before .before .before .before .args .text .now) (c .before .before .before .before .loop .at) _ _ _ _ (c .before .before .before .before .loop .inv) (omega (arith, c .before .before .before .loop-test .left)) (omega (arith, c .before .if2 .taken, few-sizes (c .before .before .before .before .before .before .args .text .now) (c .before .before .before .before .loop .at) _ _ _ _ (c .before .before .before .before .loop .inv))))
 
 returns-4 : tie.Need-returns-4 Inv-loop μ-loop
 returns-4 c = from-good (c .before .before .before .before .before .args .text .now) (c .before .before .before .loop .at) _ _ _ _ (c .before .before .before .loop .inv) (omega (arith, c .before .before .loop-test .left)) (λ e. omega (arith, e, c .if2 .left))

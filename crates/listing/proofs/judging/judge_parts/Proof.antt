@@ -27,13 +27,13 @@ part-word-requires : tie.Need-part-word-requires Inv-loop μ-loop
 part-word-requires c κs = (c .find .ensures .from, (omega (arith, c .find .ensures .to), c .before .before .before .before .pre .1 .1))
 
 returns : tie.Need-returns Inv-loop μ-loop
-returns c = count-no-part (c .before .before .before .before .before .before .args .sets) (c .before .before .before .before .loop .count) (c .before .before .before .before .loop .parameters) (c .before .part-word .result) _ (fieldsAt (c .before .before .before .before .before .before .args .text .now) (c .before .before .find .result) (c .before .before .before .before .before .before .args .end)) (c .before .part-word .ensures) (c .if1 .taken) ∙ sym (ap (countFrom (c .before .before .before .before .before .before .args .sets) (c .before .before .before .before .loop .count) (c .before .before .before .before .loop .parameters)) (fields-next (c .before .before .before .before .before .before .args .text .now) (c .before .before .before .before .loop .tab) (c .before .before .before .before .before .before .args .end) (c .before .before .find .result) (c .before .before .before .before .before .before .pre .1 .0) (c .before .before .before .loop-test .taken) (c .before .before .find .ensures))) ∙ c .before .before .before .before .loop .inv .0
+returns c = count-no-part (c .before .before .before .before .before .before .args .sets) (c .before .before .before .before .loop .count) (c .before .before .before .before .loop .parameters) (c .before .part-word .result) _ (fieldsAt (c .before .before .before .before .before .before .args .text .now) (c .before .before .find .result) (c .before .before .before .before .before .before .args .end)) (c .before .part-word .ensures) (omega (arith, c .if1 .taken)) ∙ sym (ap (countFrom (c .before .before .before .before .before .before .args .sets) (c .before .before .before .before .loop .count) (c .before .before .before .before .loop .parameters)) (fields-next (c .before .before .before .before .before .before .args .text .now) (c .before .before .before .before .loop .tab) (c .before .before .before .before .before .before .args .end) (c .before .before .find .result) (c .before .before .before .before .before .before .pre .1 .0) (c .before .before .before .loop-test .taken) (c .before .before .find .ensures))) ∙ c .before .before .before .before .loop .inv .0
 
 add-count : tie.Need-add-count Inv-loop μ-loop
 add-count c = omega arith
 
 returns-2 : tie.Need-returns-2 Inv-loop μ-loop
-returns-2 c = count-many (c .before .before .before .before .before .before .before .args .sets) (c .before .before .before .before .before .loop .count) (c .before .before .before .before .before .loop .parameters) (c .before .before .part-word .result) _ (fieldsAt (c .before .before .before .before .before .before .before .args .text .now) (c .before .before .before .find .result) (c .before .before .before .before .before .before .before .args .end)) (c .before .before .part-word .ensures) (c .before .if1 .left) (c .if2 .taken) ∙ sym (ap (countFrom (c .before .before .before .before .before .before .before .args .sets) (c .before .before .before .before .before .loop .count) (c .before .before .before .before .before .loop .parameters)) (fields-next (c .before .before .before .before .before .before .before .args .text .now) (c .before .before .before .before .before .loop .tab) (c .before .before .before .before .before .before .before .args .end) (c .before .before .before .find .result) (c .before .before .before .before .before .before .before .pre .1 .0) (c .before .before .before .before .loop-test .taken) (c .before .before .before .find .ensures))) ∙ c .before .before .before .before .before .loop .inv .0
+returns-2 c = count-many (c .before .before .before .before .before .before .before .args .sets) (c .before .before .before .before .before .loop .count) (c .before .before .before .before .before .loop .parameters) (c .before .before .part-word .result) _ (fieldsAt (c .before .before .before .before .before .before .before .args .text .now) (c .before .before .before .find .result) (c .before .before .before .before .before .before .before .args .end)) (c .before .before .part-word .ensures) (λ e. omega (arith, e, c .before .if1 .left)) (omega (arith, c .if2 .taken)) ∙ sym (ap (countFrom (c .before .before .before .before .before .before .before .args .sets) (c .before .before .before .before .before .loop .count) (c .before .before .before .before .before .loop .parameters)) (fields-next (c .before .before .before .before .before .before .before .args .text .now) (c .before .before .before .before .before .loop .tab) (c .before .before .before .before .before .before .before .args .end) (c .before .before .before .find .result) (c .before .before .before .before .before .before .before .pre .1 .0) (c .before .before .before .before .loop-test .taken) (c .before .before .before .find .ensures))) ∙ c .before .before .before .before .before .loop .inv .0
 
 add-parameters : tie.Need-add-parameters Inv-loop μ-loop
 add-parameters c = omega arith
@@ -42,19 +42,19 @@ loop-less : tie.Need-loop-less Inv-loop μ-loop
 loop-less c = omega (arith, c .before .before .before .before .find .ensures .from, c .before .before .before .before .find .ensures .to)
 
 loop-again : tie.Need-loop-again Inv-loop μ-loop
-loop-again c = (count-parameter (c .before .before .before .before .before .before .before .before .args .sets) (c .before .before .before .before .before .before .loop .count) (c .before .before .before .before .before .before .loop .parameters) (c .before .before .before .part-word .result) _ (fieldsAt (c .before .before .before .before .before .before .before .before .args .text .now) (c .before .before .before .before .find .result) (c .before .before .before .before .before .before .before .before .args .end)) (c .before .before .before .part-word .ensures) (c .before .before .if1 .left) (c .before .if2 .left) (c .if3 .taken) ∙ sym (ap (countFrom (c .before .before .before .before .before .before .before .before .args .sets) (c .before .before .before .before .before .before .loop .count) (c .before .before .before .before .before .before .loop .parameters)) (fields-next (c .before .before .before .before .before .before .before .before .args .text .now) (c .before .before .before .before .before .before .loop .tab) (c .before .before .before .before .before .before .before .before .args .end) (c .before .before .before .before .find .result) (c .before .before .before .before .before .before .before .before .pre .1 .0) (c .before .before .before .before .before .loop-test .taken) (c .before .before .before .before .find .ensures))) ∙ c .before .before .before .before .before .before .loop .inv .0, c .before .before .before .before .find .ensures .to, c .before .if2 .left, omega arith)
+loop-again c = (count-parameter (c .before .before .before .before .before .before .before .before .args .sets) (c .before .before .before .before .before .before .loop .count) (c .before .before .before .before .before .before .loop .parameters) (c .before .before .before .part-word .result) _ (fieldsAt (c .before .before .before .before .before .before .before .before .args .text .now) (c .before .before .before .before .find .result) (c .before .before .before .before .before .before .before .before .args .end)) (c .before .before .before .part-word .ensures) (λ e. omega (arith, e, c .before .before .if1 .left)) (omega (arith, c .before .if2 .left)) (omega (arith, c .if3 .taken)) ∙ sym (ap (countFrom (c .before .before .before .before .before .before .before .before .args .sets) (c .before .before .before .before .before .before .loop .count) (c .before .before .before .before .before .before .loop .parameters)) (fields-next (c .before .before .before .before .before .before .before .before .args .text .now) (c .before .before .before .before .before .before .loop .tab) (c .before .before .before .before .before .before .before .before .args .end) (c .before .before .before .before .find .result) (c .before .before .before .before .before .before .before .before .pre .1 .0) (c .before .before .before .before .before .loop-test .taken) (c .before .before .before .before .find .ensures))) ∙ c .before .before .before .before .before .before .loop .inv .0, c .before .before .before .before .find .ensures .to, c .before .if2 .left, omega arith)
 
 loop-less-2 : tie.Need-loop-less-2 Inv-loop μ-loop
 loop-less-2 c = omega (arith, c .before .before .before .before .find .ensures .from, c .before .before .before .before .find .ensures .to)
 
 loop-again-2 : tie.Need-loop-again-2 Inv-loop μ-loop
-loop-again-2 c = (count-other (c .before .before .before .before .before .before .before .before .args .sets) (c .before .before .before .before .before .before .loop .count) (c .before .before .before .before .before .before .loop .parameters) (c .before .before .before .part-word .result) _ (fieldsAt (c .before .before .before .before .before .before .before .before .args .text .now) (c .before .before .before .before .find .result) (c .before .before .before .before .before .before .before .before .args .end)) (c .before .before .before .part-word .ensures) (c .before .before .if1 .left) (c .before .if2 .left) (c .if3 .left) ∙ sym (ap (countFrom (c .before .before .before .before .before .before .before .before .args .sets) (c .before .before .before .before .before .before .loop .count) (c .before .before .before .before .before .before .loop .parameters)) (fields-next (c .before .before .before .before .before .before .before .before .args .text .now) (c .before .before .before .before .before .before .loop .tab) (c .before .before .before .before .before .before .before .before .args .end) (c .before .before .before .before .find .result) (c .before .before .before .before .before .before .before .before .pre .1 .0) (c .before .before .before .before .before .loop-test .taken) (c .before .before .before .before .find .ensures))) ∙ c .before .before .before .before .before .before .loop .inv .0, c .before .before .before .before .find .ensures .to, c .before .if2 .left, omega arith)
+loop-again-2 c = (count-other (c .before .before .before .before .before .before .before .before .args .sets) (c .before .before .before .before .before .before .loop .count) (c .before .before .before .before .before .before .loop .parameters) (c .before .before .before .part-word .result) _ (fieldsAt (c .before .before .before .before .before .before .before .before .args .text .now) (c .before .before .before .before .find .result) (c .before .before .before .before .before .before .before .before .args .end)) (c .before .before .before .part-word .ensures) (λ e. omega (arith, e, c .before .before .if1 .left)) (omega (arith, c .before .if2 .left)) (omega (arith, c .if3 .left)) ∙ sym (ap (countFrom (c .before .before .before .before .before .before .before .before .args .sets) (c .before .before .before .before .before .before .loop .count) (c .before .before .before .before .before .before .loop .parameters)) (fields-next (c .before .before .before .before .before .before .before .before .args .text .now) (c .before .before .before .before .before .before .loop .tab) (c .before .before .before .before .before .before .before .before .args .end) (c .before .before .before .before .find .result) (c .before .before .before .before .before .before .before .before .pre .1 .0) (c .before .before .before .before .before .loop-test .taken) (c .before .before .before .before .find .ensures))) ∙ c .before .before .before .before .before .before .loop .inv .0, c .before .before .before .before .find .ensures .to, c .before .if2 .left, omega arith)
 
 returns-3 : tie.Need-returns-3 Inv-loop μ-loop
-returns-3 c = count-over (c .before .before .before .before .args .sets) (c .before .before .loop .count) (c .before .before .loop .parameters) (c .if4 .taken) ∙ sym (ap (countFrom (c .before .before .before .before .args .sets) (c .before .before .loop .count) (c .before .before .loop .parameters)) (fields-over (c .before .before .before .before .args .text .now) (c .before .before .loop .tab) (c .before .before .before .before .args .end) (c .before .loop-test .left))) ∙ c .before .before .loop .inv .0
+returns-3 c = count-over (c .before .before .before .before .args .sets) (c .before .before .loop .count) (c .before .before .loop .parameters) (omega (arith, c .if4 .taken)) ∙ sym (ap (countFrom (c .before .before .before .before .args .sets) (c .before .before .loop .count) (c .before .before .loop .parameters)) (fields-over (c .before .before .before .before .args .text .now) (c .before .before .loop .tab) (c .before .before .before .before .args .end) (c .before .loop-test .left))) ∙ c .before .before .loop .inv .0
 
 returns-4 : tie.Need-returns-4 Inv-loop μ-loop
-returns-4 c = count-few (c .before .before .before .before .args .sets) (c .before .before .loop .count) (c .before .before .loop .parameters) (c .if4 .left) ∙ sym (ap (countFrom (c .before .before .before .before .args .sets) (c .before .before .loop .count) (c .before .before .loop .parameters)) (fields-over (c .before .before .before .before .args .text .now) (c .before .before .loop .tab) (c .before .before .before .before .args .end) (c .before .loop-test .left))) ∙ c .before .before .loop .inv .0
+returns-4 c = count-few (c .before .before .before .before .args .sets) (c .before .before .loop .count) (c .before .before .loop .parameters) (omega (arith, c .if4 .left)) ∙ sym (ap (countFrom (c .before .before .before .before .args .sets) (c .before .before .loop .count) (c .before .before .loop .parameters)) (fields-over (c .before .before .before .before .args .text .now) (c .before .before .loop .tab) (c .before .before .before .before .args .end) (c .before .loop-test .left))) ∙ c .before .before .loop .inv .0
 
 pub judge-parts-spec : {M : Type 1} → statement M
 judge-parts-spec =
