@@ -17,7 +17,7 @@ pub record Laying (text₀ : List ℕ) (at₀ : ℕ) (all : List ℕ) (text : Li
 pub laying-all : (text : List ℕ) (at : ℕ) (all : List ℕ) → Laying text at all text at all
 laying-all text at all = record { same = refl; room = refl; long = refl }
 
-pub laid-long : {a b xs : List ℕ} {i j : ℕ} → Laid a i xs b j → length b ≡ length a
+laid-long : {a b xs : List ℕ} {i j : ℕ} → Laid a i xs b j → length b ≡ length a
 laid-long {a} {b} {xs} {i} l = ap length (l .left) ∙ length-sets a i xs
 
 pub laying-next : {a₀ all a b xs : List ℕ} {i₀ i j : ℕ} (rest ys : List ℕ) → rest ≡ xs ++ ys → Laying a₀ i₀ all a i rest → Laid a i xs b j → Laying a₀ i₀ all b j ys

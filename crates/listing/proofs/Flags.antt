@@ -43,12 +43,12 @@ module _ (t : Bytes) (s r p : ℕ) (h : Listed t s r p) (table₀ table : List �
       go (u ∷ us) e = absurd (omega (arith, over, h .tops, l .many, ap length (l .all), length-append (l .done) (l .left), ap length e))
 
   -- the next ruleset
-  pub record NextTop : Type 0 where
+  record NextTop : Type 0 where
     pub it : Bool
     pub rest : List Bool
     pub is : l .left ≡ it ∷ rest
 
-  pub next-top : i < s → NextTop
+  next-top : i < s → NextTop
   next-top more = go (l .left) refl
     where
       go : (left : List Bool) → left ≡ l .left → NextTop

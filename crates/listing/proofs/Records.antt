@@ -58,12 +58,12 @@ module _ (t : Bytes) (s r p : ℕ) (h : Listed t s r p) (table₀ table : List �
       go (x ∷ xs) e = absurd (omega (arith, over, l .row-at, many, ap length e))
 
   -- the next rule
-  pub record NextRule : Type 0 where
+  record NextRule : Type 0 where
     pub it : Rule
     pub rest : List Rule
     pub is : l .left ≡ it ∷ rest
 
-  pub next-rule : row < partsPlace s r → NextRule
+  next-rule : row < partsPlace s r → NextRule
   next-rule more = go (l .left) refl
     where
       go : (left : List Rule) → left ≡ l .left → NextRule

@@ -148,7 +148,7 @@ module _ (d : Data) (s r p l : ℕ) (c : Counted d s r p l) where
         go (inr u) =
             absurd (u .1 ps b (and-right (leb (count isParameter ps) 8) _ rest) (omega (arith, short)) (omega (arith, leb-true (count isParameter ps) 8 (and-left (leb (count isParameter ps) 8) _ rest))))
 
-    pub rule-none : (Tests → ⊥) → addRule d (ruleIn (f ∷ fs)) ≡ none
+    rule-none : (Tests → ⊥) → addRule d (ruleIn (f ∷ fs)) ≡ none
     rule-none h = go (numberOf f) (partsIn fs) refl refl
       where
         go : (o : Option ℕ) (os : Option (List Part)) → numberOf f ≡ o → partsIn fs ≡ os → addRule d (both rule o os) ≡ none
@@ -156,7 +156,7 @@ module _ (d : Data) (s r p l : ℕ) (c : Counted d s r p l) where
         go (some m) none a b = refl
         go (some m) (some ps) a b = none-or (checked (withRule d (rule m ps))) (λ e z. h (tests-of m ps a b e z))
 
-    pub rule-some : Tests → (e : Data) × (addRule d (ruleIn (f ∷ fs)) ≡ some e) × Counted e s (r + 1) (p + k) n
+    rule-some : Tests → (e : Data) × (addRule d (ruleIn (f ∷ fs)) ≡ some e) × Counted e s (r + 1) (p + k) n
     unfolding ruleFits partsOf
     rule-some t = go (numberOf f) refl (counted s fs 0 0 (omega arith)) (c .reached)
       where

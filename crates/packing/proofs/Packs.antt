@@ -101,19 +101,19 @@ module _ (ts : List Bool) (xs : List Rule) (r : Rule) (ys : List Rule) where
       ap₂ (λ (l : List ℕ) (n : ℕ). getD l n 0) fronted place
       ∙ getD-append-add front back which 0
 
-  pub set-is : rulesetAt t (length xs) ≡ r .set
+  set-is : rulesetAt t (length xs) ≡ r .set
   unfolding back
   set-is = field 0
 
-  pub first-is : firstAt t (length xs) ≡ partsOf xs
+  first-is : firstAt t (length xs) ≡ partsOf xs
   unfolding back
   first-is = field 1
 
-  pub count-is : countAt t (length xs) ≡ length (r .parts)
+  count-is : countAt t (length xs) ≡ length (r .parts)
   unfolding back
   count-is = field 2
 
-  pub words-are : ruleWords t (length xs) ≡ wordsOf r
+  words-are : ruleWords t (length xs) ≡ wordsOf r
   unfolding ruleWords ruleFrom wordAt packed flatMap
   words-are =
       ap (slice (ruleFrom t (length xs)) (ruleFrom t (length xs) + countAt t (length xs))) cut

@@ -64,7 +64,7 @@ ascend-listed t (suc n) =
 -- ---- parts
 
 -- a word that is a part is read as a part within the limits
-pub part-within : (s w : ℕ) → isPart s w ≡ true → isPartOf s (partOf w) ≡ true
+part-within : (s w : ℕ) → isPart s w ≡ true → isPartOf s (partOf w) ≡ true
 unfolding isPart partOf
 part-within s w h = go (ltb w 256) (eqb w 256) (ltb w 512) refl refl refl (or-cases (exact || eqb w 256 || eqb w 257) (leb 512 w && ltb w (512 + s)) h)
   where

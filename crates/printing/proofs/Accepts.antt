@@ -34,7 +34,7 @@ unfolding every
 last-parts ts xs r h =
     rule-parts (length ts) r (and-left (ruleFits (length ts) r) true (every-last (ruleFits (length ts)) xs (r ∷ []) (fits-all ts (xs ++ (r ∷ [])) h .each)))
 
-pub line-rule : (ts : List Bool) (xs : List Rule) (r : Rule) → dataFits (dataFrom ts (xs ++ (r ∷ []))) ≡ true
+line-rule : (ts : List Bool) (xs : List Rule) (r : Rule) → dataFits (dataFrom ts (xs ++ (r ∷ []))) ≡ true
     → readLine (dataFrom ts xs) (ruleLine r) ≡ some (dataFrom ts (xs ++ (r ∷ [])))
 unfolding readLine same
 line-rule ts xs r h =
@@ -42,7 +42,7 @@ line-rule ts xs r h =
     ∙ ap (addRule (dataFrom ts xs)) (rule-read r)
     ∙ ap (λ (t : Bool). select t (some (dataFrom ts (xs ++ (r ∷ [])))) none) h
 
-pub line-top : (ts : List Bool) (top : Bool) → dataFits (dataFrom (ts ++ (top ∷ [])) []) ≡ true
+line-top : (ts : List Bool) (top : Bool) → dataFits (dataFrom (ts ++ (top ∷ [])) []) ≡ true
     → readLine (dataFrom ts []) (topLine top) ≡ some (dataFrom (ts ++ (top ∷ [])) [])
 unfolding readLine same
 line-top ts top h =

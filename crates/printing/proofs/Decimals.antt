@@ -31,7 +31,7 @@ value-digits (suc k) n h = go (ltb n 10) refl (λ l. value-digits k (n / 10) l)
         let before : value (digits k (n / 10)) ≡ n / 10 = ih (omega (arith, ltb-false n 10 e)) in
         value-append (digits k (n / 10)) ((48 + n % 10) ∷ []) 0 ∙ omega (arith, before)
 
-pub value-decimal : (n : ℕ) → value (decimal n) ≡ n
+value-decimal : (n : ℕ) → value (decimal n) ≡ n
 unfolding decimal
 value-decimal n = value-digits (suc n) n (omega arith)
 

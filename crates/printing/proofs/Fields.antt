@@ -51,7 +51,7 @@ other-is (b ∷ (c ∷ (e ∷ x))) p h = go (same (b ∷ c ∷ e ∷ []) subWord
     go true q k = ap (λ (l : Bytes). l ++ x) (same-true (b ∷ c ∷ e ∷ []) subWord q) ∙ nested-is x (numberOf x) p refl k
     go false q k = no-some k
 
-pub part-is : (f : Bytes) (p : Part) → partIn f ≡ some p → f ≡ partField p
+part-is : (f : Bytes) (p : Part) → partIn f ≡ some p → f ≡ partField p
 unfolding partIn
 part-is f p h = go (same f wsWord) (same f exprWord) refl refl h
   where
@@ -60,12 +60,12 @@ part-is f p h = go (same f wsWord) (same f exprWord) refl refl h
     go false true e k q = let is : Expression ≡ p = cc in same-true f exprWord k ∙ ap partField is
     go false false e k q = other-is f p q
 
-pub parts-read : (ps : List Part) → partsIn (map partField ps) ≡ some ps
+parts-read : (ps : List Part) → partsIn (map partField ps) ≡ some ps
 unfolding partsIn
 parts-read [] = refl
 parts-read (p ∷ ps) = ap₂ (both _∷_) (part-read p) (parts-read ps)
 
-pub parts-is : (fs : List Bytes) (ps : List Part) → partsIn fs ≡ some ps → fs ≡ map partField ps
+parts-is : (fs : List Bytes) (ps : List Part) → partsIn fs ≡ some ps → fs ≡ map partField ps
 unfolding partsIn
 parts-is [] ps h = let q : [] ≡ ps = cc in ap (map partField) q
 parts-is (f ∷ fs) ps h = go (partIn f) (partsIn fs) refl refl h (λ qs e. parts-is fs qs e)
@@ -118,7 +118,7 @@ module _ (c : ℕ) (low : c < 33) where
       let far : 33 ≤ b = leb-true 33 b (and-left (leb 33 b) _ h) in
       and-both _ _ (ap not (ne-eqb b c (λ e. omega arith))) (lacks-above x (and-right (leb 33 b) _ h))
 
-  pub part-lacks : (s : ℕ) (p : Part) → isPartOf s p ≡ true → lacks c (partField p) ≡ true
+  part-lacks : (s : ℕ) (p : Part) → isPartOf s p ≡ true → lacks c (partField p) ≡ true
   unfolding every
   part-lacks s (Exact b) h = lacks-above (b ∷ []) (and-both (leb 33 b) true (and-left (leb 33 b) (leb b 126) (and-left (leb 33 b && leb b 126) _ h)) refl)
   part-lacks s Whitespace h = lacks-above wsWord refl
