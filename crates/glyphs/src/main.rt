@@ -18,7 +18,7 @@ use crate::show::part;
 use crate::show::say;
 use crate::show::tell;
 use crate::table::LISTING;
-use crate::table::WORDS;
+use crate::table::MOST_WORDS;
 use listing::reading::ReadAnswer;
 use listing::reading::read_table;
 use matcher::Answer;
@@ -73,7 +73,7 @@ fn put_readings(line: &[u8], found: &[u16; ROOM], again: &[u16; ROOM]) {
 }
 
 // Makes a line's sheet, and calls both entry points.
-fn read(table: &[u16; WORDS], line: &[u8], sheet: &mut [u8]) {
+fn read(table: &[u16], line: &[u8], sheet: &mut [u8]) {
     sheet::fill(sheet, line);
     let mut found = [0u16; ROOM];
     let scan = matcher::match_instr(table, line, sheet, BUDGET, &mut found);
@@ -87,7 +87,7 @@ fn read(table: &[u16; WORDS], line: &[u8], sheet: &mut [u8]) {
 }
 
 // Writes a line of the input, and under it what is read in it.
-fn show_line(table: &[u16; WORDS], line: &[u8]) {
+fn show_line(table: &[u16], line: &[u8]) {
     say(b"\n");
     say(line);
     if is_comment(line) {
@@ -106,7 +106,7 @@ fn is_comment(line: &[u8]) -> bool {
 }
 
 // The lines of a text: what stands before a newline, and after the last one if that is something.
-fn show_lines(table: &[u16; WORDS], text: &[u8]) {
+fn show_lines(table: &[u16], text: &[u8]) {
     let mut from: usize = 0;
     let mut at: usize = 0;
     while at < text.len() {
@@ -122,7 +122,7 @@ fn show_lines(table: &[u16; WORDS], text: &[u8]) {
 }
 
 // Writes the table's rules, and what is read in the lines of standard input.
-fn show_input(table: &[u16; WORDS]) {
+fn show_input(table: &[u16]) {
     let mut text = io::buffer();
     let n = io::read_full(IN, &mut text);
     rules::show(table);
@@ -130,11 +130,19 @@ fn show_input(table: &[u16; WORDS]) {
     say(b"\n");
 }
 
+// The table that reading wrote: exactly so many words, the first of its room. Reading says no more than the room has.
+fn table_in(room: &[u16], words: usize) -> &[u16] {
+    if words <= room.len() {
+        return &room[0..words];
+    }
+    &room[0..0]
+}
+
 fn main() {
-    let mut table = [0u16; WORDS];
-    let answer = read_table(&LISTING, &mut table);
+    let mut room = [0u16; MOST_WORDS];
+    let answer = read_table(&LISTING, &mut room);
     match answer {
-        ReadAnswer::Read { words: _ } => show_input(&table),
+        ReadAnswer::Read { words } => show_input(table_in(&room, words as usize)),
         ReadAnswer::BadText { line } => tell(
             b"the listing is refused, number 15: bad line %\n",
             line as usize,

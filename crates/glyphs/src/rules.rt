@@ -1,17 +1,13 @@
 // The example's rules, shown, and the encoding of each: its size in bits, and the constraint on its values.
 use crate::show::say;
 use crate::show::tell;
-use crate::show::wide;
-use crate::table::EXPRESSION;
-use crate::table::NESTED_1;
-use crate::table::PARTS;
-use crate::table::RECORD;
-use crate::table::RECORDS;
-use crate::table::RULES;
-use crate::table::TOP_RULES;
-use crate::table::WHITESPACE;
-use crate::table::WORDS;
-ghost use Prim.Native.Nat.{_<_, _≤_};
+use defs::ruledef::Part;
+use defs::ruledef::is_top_rule;
+use defs::ruledef::part_at;
+use defs::ruledef::parts_of;
+use defs::ruledef::rule_count;
+use defs::ruledef::ruleset_of;
+ghost use Prim.Native.Nat.{_≤_};
 
 // The sizes of an encoding: an operation, and a byte of values or two.
 const SHORT: usize = 16;
@@ -24,6 +20,9 @@ const NONE: usize = 0;
 const BYTE: usize = 8;
 
 pub const TWO_BYTES: usize = 16;
+
+// No table has more rules.
+const MOST_RULES: u16 = 512;
 
 // The size in bits of a rule of ruleset 0.
 pub fn bits_of(rule: usize) -> usize
@@ -44,31 +43,38 @@ pub fn fits_of(rule: usize) -> usize {
     }
 }
 
-// Writes all rules of the table.
-pub fn show(table: &[u16; WORDS]) {
+// Writes all rules of the table. A rule's number counts from its ruleset's first.
+pub fn show(table: &[u16]) {
     say(b"Rules: ruleset.rule, pattern, encoding");
-    let mut place: usize = 0;
-    while place < RULES {
-        show_rule(table, place);
-        place += 1;
+    let rules = rule_count(table);
+    let mut first: u16 = 0;
+    let mut rule: u16 = 0;
+    while rule < MOST_RULES && (rule as usize) < rules {
+        first = first_of(table, first, rule);
+        show_rule(table, rule, (rule - first) as usize);
+        rule += 1;
     }
     say(b"\n");
 }
 
-// Writes the rule whose record has this place: its number, pattern and encoding.
-fn show_rule(table: &[u16; WORDS], place: usize)
-    requires listed { ⌜ place < 9 ⌝ }
+// The first rule of a rule's ruleset, whose rules stand together: the first one of the rule before, or the rule itself.
+fn first_of(table: &[u16], first: u16, rule: u16) -> u16
+    requires before { ⌜ first ≤ rule ⌝ }
+    ensures within { λ r. ⌜ r ≤ rule ⌝ }
 {
-    let record = RECORDS + RECORD * place;
-    let first = PARTS + word(table, record + 1);
-    let end = first + word(table, record + 2);
-    if place < TOP_RULES {
-        tell(b"\n    0.%  ", place, 0, 0);
-        put_parts(table, first, end);
-        put_encoding(place);
+    if ruleset_of(table, first) == ruleset_of(table, rule) {
+        first
     } else {
-        tell(b"\n    1.%  ", place - TOP_RULES, 0, 0);
-        put_parts(table, first, end);
+        rule
+    }
+}
+
+// Writes a rule: its ruleset, its number there, its pattern, and the encoding if it is a top one.
+fn show_rule(table: &[u16], rule: u16, number: usize) {
+    tell(b"\n    %.%  ", ruleset_of(table, rule), number, 0);
+    put_pattern(table, rule);
+    if is_top_rule(table, rule) {
+        put_encoding(number);
     }
 }
 
@@ -81,30 +87,20 @@ fn put_encoding(rule: usize) {
     }
 }
 
-// A word of the table, or 0 past its end.
-fn word(table: &[u16; WORDS], i: usize) -> usize
-    ensures small { λ r. ⌜ r ≤ 65535 ⌝ }
-{
-    if i < WORDS { wide(table[i]) } else { 0 }
-}
-
-fn put_parts(table: &[u16; WORDS], first: usize, end: usize) {
-    let mut at = first;
-    while at < end {
-        put_part(word(table, at));
+fn put_pattern(table: &[u16], rule: u16) {
+    let parts = parts_of(table, rule);
+    let mut at = parts.at;
+    while at < parts.end {
+        put_part(part_at(table, at));
         at += 1;
     }
 }
 
-fn put_part(part: usize) {
+fn put_part(part: Part) {
     match part {
-        WHITESPACE => say(b" "),
-        EXPRESSION => say(b"{value}"),
-        NESTED_1 => say(b"{ruleset 1}"),
-        _ => {
-            if part < WHITESPACE {
-                say(&[part as u8]);
-            }
-        }
+        Part::Exact(byte) => say(&[byte]),
+        Part::Whitespace => say(b" "),
+        Part::Expression => say(b"{value}"),
+        Part::Nested(set) => tell(b"{ruleset %}", set, 0, 0),
     }
 }

@@ -17,23 +17,5 @@ pub const LISTING: [u8; BYTES] = *b"\
     rule\t1\tl\te\tf\tt\n\
     rule\t1\tr\ti\tg\th\tt\n";
 
-// The parts that are no bytes.
-pub const WHITESPACE: usize = 256;
-
-pub const EXPRESSION: usize = 257;
-
-pub const NESTED_1: usize = 513;
-
-// Of the words that it is read into: the rules, and those of ruleset 0; the words of a record; where the records begin,
-// 3 + S, and the parts, 3 + S + 3R; and all words, 3 + S + 3R + P.
-pub const RULES: usize = 9;
-
-pub const TOP_RULES: usize = 7;
-
-pub const RECORD: usize = 3;
-
-pub const RECORDS: usize = 5;
-
-pub const PARTS: usize = 32;
-
-pub const WORDS: usize = 88;
+// The most words that it may be read into. It has room to grow: how many words it takes, reading says.
+pub const MOST_WORDS: usize = 1_000;

@@ -15,10 +15,11 @@ use crate::output::tell_written;
 use listing::reading::read_table;
 use listing::writing::write_table;
 
-// What the arrays have room for: enough for every case here. The largest tables are tried elsewhere.
-const WORDS: usize = 256;
+// What the arrays have room for. A table has at most 9,763 words and a listing at most 41,440 bytes: these are some more, so
+// that a table or a text that passes a limit can be lent too.
+const WORDS: usize = 10_000;
 
-const BYTES: usize = 1_024;
+const BYTES: usize = 45_000;
 
 fn too_long() -> bool {
     say(b" too long\n");
