@@ -1,4 +1,5 @@
 -- A table's rulesets and rules as plain data, and document 01's limits over them.
+-- In words: docs/MANUAL.md, 2.2 and 10.1.
 use mathlib.Core.Bool.{Bool, true, not, _&&_}
 use mathlib.Core.List.{List, [], _∷_}
 use Prim.Native.Nat.{ℕ, _+_}
@@ -19,6 +20,7 @@ pub record Data : Type 0 where
   pub tops : List Bool
   pub rules : List Rule
 
+-- a rule, and data, by their fields
 abbrev pub rule : ℕ → List Part → Rule
 rule s ps = record { set = s; parts = ps }
 
@@ -60,6 +62,7 @@ unfoldable pub partsOf : List Rule → ℕ
 partsOf [] = 0
 partsOf (r ∷ rs) = length (r .parts) + partsOf rs
 
+-- S (1 to 32), R (0 to 512), P (0 to 8,192); rules in ruleset order, each within its limits
 unfoldable pub dataFits : Data → Bool
 dataFits d =
     inRange (length (d .tops)) (length (d .rules)) (partsOf (d .rules)) && (ascend 0 (d .rules) && every (ruleFits (length (d .tops))) (d .rules))

@@ -1,4 +1,5 @@
 -- Plain data as a packed table, with the parts packed in rule order and no spare parts, and a packed table's data.
+-- In words: docs/MANUAL.md, 2.2 and 10.2.
 use mathlib.Core.Bool.{Bool, false}
 use mathlib.Core.List.{List, [], _∷_, _++_, map, flatMap}
 use Prim.Native.Nat.{ℕ, _+_}
@@ -23,6 +24,7 @@ unfoldable pub recordsOf : ℕ → List Rule → List ℕ
 recordsOf f [] = []
 recordsOf f (r ∷ rs) = r .set ∷ f ∷ length (r .parts) ∷ recordsOf (f + length (r .parts)) rs
 
+-- S, R, P; S flags; R records; P part words
 unfoldable pub packed : Data → List ℕ
 packed d =
     length (d .tops) ∷ length (d .rules) ∷ partsOf (d .rules)

@@ -1,4 +1,5 @@
 -- The first bad line of a text that is no listing, said apart from any reader.
+-- In words: docs/MANUAL.md, 10.2.
 use mathlib.Core.Path.{_≡_}
 use mathlib.Core.Bool.{Bool, true, not}
 use mathlib.Core.List.{List, [], _∷_, _++_}
@@ -9,6 +10,7 @@ use Rattle.plain.specs.Lists.{every}
 use Rattle.packing.specs.Data.{Data, dataFits}
 use Rattle.printing.specs.Listing.{Bytes, ended, listing}
 
+-- a byte stands nowhere in them
 unfoldable pub lacks : ℕ → Bytes → Bool
 lacks c bs = every (λ b. not (eqb b c)) bs
 
@@ -19,6 +21,7 @@ pub record Begins (text : Bytes) : Type 0 where
   pub after : Bytes
   pub begins : listing whole ≡ text ++ after
 
+-- counted from 0
 pub data FirstBad (text : Bytes) : ℕ → Type 0 where
   -- the lines before it begin some listing, with it none
   bad-line : (lines : List Bytes) (line rest : Bytes) → every (lacks 10) (lines ++ (line ∷ [])) ≡ true → text ≡ ended (lines ++ (line ∷ [])) ++ rest

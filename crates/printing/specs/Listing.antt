@@ -1,4 +1,5 @@
--- The text of a table's rulesets and rules.
+-- The text of a table's rulesets and rules: one record a line, fields parted by tabs, each line ended by byte 10.
+-- In words: docs/MANUAL.md, 10.1.
 use mathlib.Core.Bool.{Bool, true, false}
 use mathlib.Core.List.{List, [], _∷_, _++_, map}
 use Prim.Native.Nat.{ℕ, zero, suc, _+_, _/_, _%_}
@@ -11,7 +12,7 @@ use Rattle.packing.specs.Data.{Rule, Data}
 abbrev pub Bytes : Type 0
 Bytes = List ℕ
 
--- `ruleset`, `rule`, `top`, `nested`, `ws`, `expr`, `sub`
+-- `ruleset`, `rule`, `top`, `nested`, `ws`, `expr`, `sub`, as bytes; the code's byte strings are proved to be these
 abbrev pub rulesetWord : Bytes
 rulesetWord = 114 ∷ 117 ∷ 108 ∷ 101 ∷ 115 ∷ 101 ∷ 116 ∷ []
 
@@ -70,12 +71,14 @@ unfoldable pub ended : List Bytes → Bytes
 ended [] = []
 ended (x ∷ xs) = x ++ (10 ∷ ended xs)
 
+-- a ruleset's line, and a rule's
 abbrev pub topLine : Bool → Bytes
 topLine top = parted 9 (topFields top)
 
 abbrev pub ruleLine : Rule → Bytes
 ruleLine r = parted 9 (ruleFields r)
 
+-- first all rulesets, then all rules in table order
 unfoldable pub linesOf : Data → List Bytes
 linesOf d = map topLine (d .tops) ++ map ruleLine (d .rules)
 

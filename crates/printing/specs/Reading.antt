@@ -1,4 +1,5 @@
--- Reading a listing, line by line: the data, or the first bad line's number.
+-- Reading a listing, line by line: the data, or the first bad line's number. No promise names it: it is proved to undo printing,
+-- and to stop at the first bad line, and the code is proved to follow it.
 use mathlib.Core.Path.{_≡_}
 use mathlib.Core.Logic.{_⊎_}
 use mathlib.Core.Bool.{Bool, true, false, _&&_}
