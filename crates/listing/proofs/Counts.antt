@@ -13,7 +13,7 @@ use lib.Seq.{slice, slice-cons}
 use borrow.Author.Tests.{leb-true, eq-eqb, ne-eqb, le-leb, lt-leb, lt-ltb, le-ltb}
 use Rattle.plain.specs.Choice.{select}
 use Rattle.plain.specs.Lists.{count, every}
-use Rattle.plain.proofs.Tests.{not-both, and-left, and-right, and-both}
+use Rattle.plain.proofs.Tests.{tested, not-both, and-left, and-right, and-both}
 use Rattle.plain.proofs.Every.{every-both}
 use Rattle.defs.specs.Table.{isParameter}
 use Rattle.defs.specs.declared.ruledef.Part.{Part}
@@ -24,9 +24,9 @@ use Rattle.packing.proofs.Tables.{ascend-more}
 use Rattle.printing.specs.Listing.{Bytes}
 use Rattle.printing.specs.Reading.{pieces, partIn, partsIn, both}
 use Rattle.printing.proofs.Pieces.{piece-last, piece-first}
-use Rattle.fields.specs.Said.{Found, wordIn}
+use Rattle.fields.specs.Said.{saidWord, Found, wordIn}
 use Rattle.fields.proofs.Scans.{slice-cut}
-use Rattle.listing.specs.Judging.{fieldsAt, countFrom}
+use Rattle.listing.specs.Judging.{fieldsAt, partsSaid}
 
 -- ---- fields, one by one
 
@@ -61,6 +61,13 @@ pub fields-next : (t : Bytes) (tab end to : ℕ) → end ≤ length t → tab < 
 fields-next t tab end to fits h f = fields-open t tab end h ∙ pieces-at t (tab + 1) end to fits f
 
 -- ---- the count, turn by turn
+
+-- what is counted of the fields that are left, k parts and p parameters before them
+unfoldable pub countFrom : ℕ → ℕ → ℕ → List Bytes → ℕ
+countFrom s k p [] = select (leb p 8) k 65
+countFrom s k p (f ∷ fs) =
+    select (eqb (saidWord s f) 0) 65
+    (select (ltb 64 (k + 1)) 65 (countFrom s (k + 1) (p + select (ltb 256 (saidWord s f)) 1 0) fs))
 
 module _ (s k p w : ℕ) (f : Bytes) (fs : List Bytes) (is : w ≡ wordIn s (partIn f)) where
   pub count-no-part : w ≡ 0 → 65 ≡ countFrom s k p (f ∷ fs)
@@ -238,3 +245,31 @@ counted s (f ∷ fs) k p h = go (wordIn s (partIn f)) (word-of s (partIn f)) (λ
             let is = first (select (ltb 64 (k + 1)) 65 (countFrom s (k + 1) (p + select (ltb 256 (wordOf q)) 1 0) fs))
             ∙ ap (λ (b : Bool). select b 65 (countFrom s (k + 1) (p + select (ltb 256 (wordOf q)) 1 0) fs)) (lt-ltb 64 (k + 1) (omega (arith, m))) in
             inr (subst (Unsaid s k p (f ∷ fs)) (sym is) (unsaid-many s k p f fs q e ok (omega (arith, m))))
+
+-- from the start, it is how many parts the fields say
+pub count-is : (s : ℕ) (fs : List Bytes) → countFrom s 0 0 fs ≡ partsSaid s (partsIn fs)
+count-is s fs = go (counted s fs 0 0 (omega arith))
+  where
+    unsaid : (o : Option (List Part)) → partsIn fs ≡ o → Unsaid s 0 0 fs (countFrom s 0 0 fs) → 65 ≡ partsSaid s o
+    unsaid none e u = refl
+    unsaid (some ps) e u = by (tested (leb (length ps) 64 && (leb (count isParameter ps) 8 && every (isPartOf s) ps)))
+      where
+        by : ((leb (length ps) 64 && (leb (count isParameter ps) 8 && every (isPartOf s) ps)) ≡ true)
+            ⊎ ((leb (length ps) 64 && (leb (count isParameter ps) 8 && every (isPartOf s) ps)) ≡ false) → 65 ≡ partsSaid s (some ps)
+        by (inl h) =
+            let rest = and-right (leb (length ps) 64) _ h in
+            absurd
+            (u .1 ps e (and-right (leb (count isParameter ps) 8) _ rest)
+            (omega (arith, leb-true (length ps) 64 (and-left (leb (length ps) 64) _ h)))
+            (omega (arith, leb-true (count isParameter ps) 8 (and-left (leb (count isParameter ps) 8) _ rest))))
+        by (inr h) = sym (ap (λ (b : Bool). select b (length ps) 65) h)
+
+    go : Said s 0 0 fs (countFrom s 0 0 fs) ⊎ Unsaid s 0 0 fs (countFrom s 0 0 fs) → countFrom s 0 0 fs ≡ partsSaid s (partsIn fs)
+    go (inl d) =
+        let size : countFrom s 0 0 fs ≡ length (d .all) = d .size ∙ omega arith in
+        size
+        ∙ sym
+        (ap (partsSaid s) (d .is)
+        ∙ ap (λ (b : Bool). select b (length (d .all)) 65)
+        (and-both _ _ (le-leb (length (d .all)) 64 (omega (arith, d .short))) (and-both _ _ (le-leb (count isParameter (d .all)) 8 (omega (arith, d .few))) (d .each))))
+    go (inr u) = u .0 ∙ unsaid (partsIn fs) refl u

@@ -30,8 +30,8 @@ use Rattle.fields.proofs.Scans.{same-not, slice-cut}
 use Rattle.listing.specs.declared.judging.Sizes.{Sizes}
 use Rattle.listing.specs.declared.judging.Line.{Line}
 use Rattle.listing.specs.declared.judging.Line.the-variants.{Fits, Bad}
-use Rattle.listing.specs.Judging.{fieldsAt, countFrom, Counted, LineSays}
-use Rattle.listing.proofs.Counts.{fields-over, fields-open, pieces-at, Said, Unsaid, counted, rule-more, More, more-rule}
+use Rattle.listing.specs.Judging.{fieldsAt, partsSaid, Counted, LineSays}
+use Rattle.listing.proofs.Counts.{countFrom, count-is, fields-over, fields-open, pieces-at, Said, Unsaid, counted, rule-more, More, more-rule}
 
 -- nothing, or something
 none-or : {A : Type 0} (o : Option A) → ((a : A) → o ≡ some a → ⊥) → o ≡ none
@@ -99,7 +99,10 @@ module _ (d : Data) (s r p l : ℕ) (c : Counted d s r p l) where
 
   -- ---- a rule
 
-  module _ (f : Bytes) (fs : List Bytes) (n k : ℕ) (low : n ≡ lowNumber (numberOf f)) (many : k ≡ countFrom s 0 0 fs) where
+  module _ (f : Bytes) (fs : List Bytes) (n k : ℕ) (low : n ≡ lowNumber (numberOf f)) (many : k ≡ partsSaid s (partsIn fs)) where
+    by-count : k ≡ countFrom s 0 0 fs
+    by-count = many ∙ sym (count-is s fs)
+
     pub record Tests : Type 0 where
       pub below : n < s
       pub order : l ≤ n
@@ -137,7 +140,7 @@ module _ (d : Data) (s r p l : ℕ) (c : Counted d s r p l) where
 
         go : Said s 0 0 fs (countFrom s 0 0 fs) ⊎ Unsaid s 0 0 fs (countFrom s 0 0 fs) → Tests
         go (inl z) =
-            let size : k ≡ length ps = many ∙ z .size ∙ omega (arith, ap length (some-is (z .all) ps (sym (z .is) ∙ b))) in
+            let size : k ≡ length ps = by-count ∙ z .size ∙ omega (arith, ap length (some-is (z .all) ps (sym (z .is) ∙ b))) in
             record {
               below = omega (arith, number, under);
               order = omega (arith, number, c .last, more .order);
@@ -163,7 +166,7 @@ module _ (d : Data) (s r p l : ℕ) (c : Counted d s r p l) where
         go : (o : Option ℕ) → numberOf f ≡ o → Said s 0 0 fs (countFrom s 0 0 fs) ⊎ Unsaid s 0 0 fs (countFrom s 0 0 fs) → (d ≡ nothing) ⊎ (dataFits d ≡ true)
             → (e : Data) × (addRule d (ruleIn (f ∷ fs)) ≡ some e) × Counted e s (r + 1) (p + k) n
         go none a z w = absurd (omega (arith, low ∙ ap lowNumber a, t .below, counted-small .0))
-        go (some m) a (inr u) w = absurd (omega (arith, u .0, many, t .short))
+        go (some m) a (inr u) w = absurd (omega (arith, u .0, by-count, t .short))
         go (some m) a (inl z) (inl w) = absurd (omega (arith, t .below, c .sets, ap (λ (x : Data). length (x .tops)) w))
         go (some m) a (inl z) (inr w) = (
           withRule d (rule m (z .all)),
@@ -181,7 +184,7 @@ module _ (d : Data) (s r p l : ℕ) (c : Counted d s r p l) where
             number = let x : n ≡ min m 100 = low ∙ ap lowNumber a in omega (arith, x, t .below, counted-small .0)
 
             size : k ≡ length (z .all)
-            size = many ∙ z .size ∙ omega arith
+            size = by-count ∙ z .size ∙ omega arith
 
             good : ruleFits s (rule m (z .all)) ≡ true
             good = and-both _ _ (lt-ltb m s (omega (arith, number, t .below)))
@@ -241,7 +244,7 @@ module _ (t : Bytes) (at end tab : ℕ) (fits : end ≤ length t) (f : Found t a
   line-other h v w = open-is h ∙ ap₂ (λ (b e : Bool). select b (addTop d (d .rules) (topIn (pieces 9 (slice (tab + 1) end t)))) (select e (addRule d (ruleIn (pieces 9 (slice (tab + 1) end t)))) none)) v w
 
   -- a rule's fields
-  module _ (s r p l n k : ℕ) (c : Counted d s r p l) (low : n ≡ lowNumber (numberOf (slice at tab t))) (many : k ≡ countFrom s 0 0 (fieldsAt t tab end)) where
+  module _ (s r p l n k : ℕ) (c : Counted d s r p l) (low : n ≡ lowNumber (numberOf (slice at tab t))) (many : k ≡ partsSaid s (partsIn (fieldsAt t tab end))) where
     pub fields-none : (Tests d s r p l c (slice at tab t) (fieldsAt t tab end) n k low many → ⊥) → addRule d (ruleIn (pieces 9 (slice at end t))) ≡ none
     fields-none h = ap (λ (fs : List Bytes). addRule d (ruleIn fs)) (pieces-at t at end tab fits f) ∙ rule-none d s r p l c (slice at tab t) (fieldsAt t tab end) n k low many h
 

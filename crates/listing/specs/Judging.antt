@@ -1,16 +1,19 @@
 -- What the judging pass finds, line by line.
 use mathlib.Core.Path.{_≡_}
-use mathlib.Core.List.{List, [], _∷_}
+use mathlib.Core.Bool.{_&&_}
+use mathlib.Core.List.{List, []}
 use mathlib.Core.Option.{Option, none, some}
 use Prim.Native.Nat.{ℕ, _+_, _≤_}
-use lib.Dec.{eqb, leb, ltb}
+use lib.Dec.{leb, ltb}
 use lib.ListN.{length}
 use lib.Seq.{slice}
 use Rattle.plain.specs.Choice.{select}
-use Rattle.packing.specs.Data.{Data, lastOf, partsOf}
+use Rattle.plain.specs.Lists.{count, every}
+use Rattle.defs.specs.Table.{isParameter}
+use Rattle.defs.specs.declared.ruledef.Part.{Part}
+use Rattle.packing.specs.Data.{Data, isPartOf, lastOf, partsOf}
 use Rattle.printing.specs.Listing.{Bytes}
 use Rattle.printing.specs.Reading.{Reached, pieces, Read, good, bad}
-use Rattle.fields.specs.Said.{saidWord}
 use Rattle.listing.specs.declared.judging.Judged.{Judged}
 use Rattle.listing.specs.declared.judging.Judged.the-variants.{Good, BadAt}
 use Rattle.listing.specs.declared.judging.Line.{Line}
@@ -20,12 +23,10 @@ use Rattle.listing.specs.declared.judging.Line.the-variants.{Fits, Bad}
 unfoldable pub fieldsAt : Bytes → ℕ → ℕ → List Bytes
 fieldsAt text tab end = select (ltb tab end) (pieces 9 (slice (tab + 1) end text)) []
 
--- how many parts fields say, k and p parameters before them: at most 64 and 8, each within the limits; else 65
-unfoldable pub countFrom : ℕ → ℕ → ℕ → List Bytes → ℕ
-countFrom s k p [] = select (leb p 8) k 65
-countFrom s k p (f ∷ fs) =
-    select (eqb (saidWord s f) 0) 65
-    (select (ltb 64 (k + 1)) 65 (countFrom s (k + 1) (p + select (ltb 256 (saidWord s f)) 1 0) fs))
+-- how many parts fields say of a rule: at most 64 parts and 8 parameters, each within the limits; else 65
+abbrev pub partsSaid : ℕ → Option (List Part) → ℕ
+partsSaid s none = 65
+partsSaid s (some ps) = select (leb (length ps) 64 && (leb (count isParameter ps) 8 && every (isPartOf s) ps)) (length ps) 65
 
 -- ---- the lines so far
 

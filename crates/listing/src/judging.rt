@@ -12,8 +12,8 @@ ghost use Prim.Native.Nat.{_+_, _≤_};
 ghost use lib.ListN.{length};
 ghost use lib.Seq.{slice};
 ghost use Rattle.packing.specs.Data.{Data};
-ghost use Rattle.printing.specs.Reading.{pieces, topIn, ruleIn, addTop, addRule, readLine, read};
-ghost use Rattle.listing.specs.Judging.{fieldsAt, countFrom, Counted, Countable, LineSays, Judges};
+ghost use Rattle.printing.specs.Reading.{pieces, partsIn, topIn, ruleIn, addTop, addRule, readLine, read};
+ghost use Rattle.listing.specs.Judging.{fieldsAt, partsSaid, Counted, Countable, LineSays, Judges};
 
 // What is counted of a rule's parts that are refused: more than a rule may have.
 const TOO_MANY: usize = ruledef::MOST_PARTS_A_RULE + 1;
@@ -44,7 +44,7 @@ fn judge_parts(text: &[u8], at: usize, end: usize, sets: usize) -> usize
     requires { ⌜ at ≤ end ⌝ }
     requires { ⌜ end ≤ length (now text) ⌝ }
     requires { ⌜ sets ≤ 32 ⌝ }
-    ensures answers { λ r. ⌜ r ≡ countFrom sets 0 0 (fieldsAt (now (text .entry)) at end) ⌝ }
+    ensures answers { λ r. ⌜ r ≡ partsSaid sets (partsIn (fieldsAt (now (text .entry)) at end)) ⌝ }
 {
     let mut tab = at;
     let mut count = 0;

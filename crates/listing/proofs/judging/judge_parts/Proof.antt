@@ -1,21 +1,22 @@
 -- `listing::judging::judge_parts` meets its contract. The loop's invariant: the count from here is the count from the start.
-use mathlib.Core.Path.{_≡_, refl, sym, ap, _∙_}
+use mathlib.Core.Path.{_≡_, sym, ap, _∙_}
 use Prim.Native.Nat.{_≤_, _-_}
 use native.Mathlib.Omega.{arith}
-use Rattle.listing.specs.Judging.{fieldsAt, countFrom}
-use Rattle.listing.proofs.Counts.{fields-over, fields-next, count-no-part, count-many, count-parameter, count-other, count-few, count-over}
+use Rattle.printing.specs.Reading.{partsIn}
+use Rattle.listing.specs.Judging.{fieldsAt, partsSaid}
+use Rattle.listing.proofs.Counts.{countFrom, count-is, fields-over, fields-next, count-no-part, count-many, count-parameter, count-other, count-few, count-over}
 use Rattle.listing.proofs.judging.judge_parts.Statement.{statement}
 use Rattle.listing.proofs.judging.judge_parts.Tie as tie
 
 abbrev Inv-loop : tie.InvT-loop
 Inv-loop text at end sets tab₀ count₀ parameters₀ tab count parameters =
-    (countFrom sets count parameters (fieldsAt text tab end) ≡ countFrom sets 0 0 (fieldsAt text at end)) × (tab ≤ end) × (count ≤ 64) × (parameters ≤ count)
+    (countFrom sets count parameters (fieldsAt text tab end) ≡ partsSaid sets (partsIn (fieldsAt text at end))) × (tab ≤ end) × (count ≤ 64) × (parameters ≤ count)
 
 abbrev μ-loop : tie.MeasureT-loop
 μ-loop text at end sets tab₀ count₀ parameters₀ tab count parameters = end - tab
 
 loop-holds : tie.Need-loop-holds Inv-loop μ-loop
-loop-holds c = (refl, omega arith, omega arith, omega arith)
+loop-holds c = (count-is _ _, omega arith, omega arith, omega arith)
 
 add-from : tie.Need-add-from Inv-loop μ-loop
 add-from c = omega arith
