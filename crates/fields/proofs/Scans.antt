@@ -22,7 +22,7 @@ use Rattle.printing.specs.FirstBad.{lacks}
 use Rattle.printing.proofs.Pieces.{same-true, lacks-append}
 use Rattle.printing.proofs.Decimals.{number-decimal, number-is, decimal-one, decimal-two}
 use Rattle.printing.proofs.Fields.{part-read}
-use Rattle.fields.specs.Said.{lowNumber, digitOf, exactWord, wordIn}
+use Rattle.fields.specs.Said.{lowNumber, digitOf, wordIn}
 
 -- ---- a byte sought
 
@@ -193,17 +193,14 @@ is-exact : (b : ℕ) → b < 256 → isPart 0 b ≡ (leb 33 b && leb b 126 && no
 unfolding isPart
 is-exact b h = rw (isPart, ne-eqb b 256 (λ e. omega arith), ne-eqb b 257 (λ e. omega arith), lt-leb 512 b (omega arith)) (simp or-false)
 
-pub exact-yes : (b : ℕ) → b < 256 → isPart 0 b ≡ true → b ≡ exactWord b
-unfolding exactWord
+pub exact-yes : (b : ℕ) → b < 256 → isPart 0 b ≡ true → b ≡ wordIn 0 (some (Exact b))
 exact-yes b h e = sym (ap (λ (x : Bool). select x b 0) (sym (is-exact b h) ∙ e))
 
-pub exact-no : (b : ℕ) → b < 256 → isPart 0 b ≡ false → 0 ≡ exactWord b
-unfolding exactWord
+pub exact-no : (b : ℕ) → b < 256 → isPart 0 b ≡ false → 0 ≡ wordIn 0 (some (Exact b))
 exact-no b h e = sym (ap (λ (x : Bool). select x b 0) (sym (is-exact b h) ∙ e))
 
 module _ (s : ℕ) where
-  pub word-exact : (x : Bytes) (b : ℕ) → x ≡ b ∷ [] → exactWord b ≡ wordIn s (partIn x)
-  unfolding exactWord
+  pub word-exact : (x : Bytes) (b : ℕ) → x ≡ b ∷ [] → wordIn 0 (some (Exact b)) ≡ wordIn s (partIn x)
   word-exact x b e = sym (ap (λ (y : Bytes). wordIn s (partIn y)) e ∙ ap (wordIn s) (part-read (Exact b)))
 
   pub word-ws : (x : Bytes) → same x wsWord ≡ true → 256 ≡ wordIn s (partIn x)

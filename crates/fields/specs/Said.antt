@@ -1,9 +1,9 @@
 -- What a listing's fields say: where a byte stands, low numbers, the words of parts.
 use mathlib.Core.Path.{_≡_}
-use mathlib.Core.Bool.{true, not, _&&_}
+use mathlib.Core.Bool.{true, _&&_}
 use mathlib.Core.Option.{Option, none, some}
 use Prim.Native.Nat.{ℕ, _-_, _≤_, _<_, min}
-use lib.Dec.{eqb, leb}
+use lib.Dec.{leb}
 use lib.ListN.{getD}
 use lib.Seq.{slice}
 use Rattle.plain.specs.Choice.{select}
@@ -25,12 +25,9 @@ abbrev pub lowNumber : Option ℕ → ℕ
 lowNumber none = 100
 lowNumber (some n) = min n 100
 
+-- a digit's value, else 100
 unfoldable pub digitOf : ℕ → ℕ
 digitOf b = select (leb 48 b && leb b 57) (b - 48) 100
-
--- the word of an exact part within the limits, else 0
-unfoldable pub exactWord : ℕ → ℕ
-exactWord b = select (leb 33 b && leb b 126 && not (eqb b 59)) b 0
 
 -- the word of a part within the limits, else 0
 abbrev pub wordIn : ℕ → Option Part → ℕ

@@ -2,11 +2,13 @@
 use crate::spelling;
 use defs::ruledef;
 ghost use mathlib.Core.Path.{_≡_};
+ghost use mathlib.Core.Option.{some};
 ghost use Prim.Native.Nat.{_≤_};
 ghost use lib.ListN.{length};
 ghost use lib.Seq.{slice};
+ghost use Rattle.defs.specs.declared.ruledef.Part.the-variants.{Exact};
 ghost use Rattle.printing.specs.Reading.{same, numberOf, partIn};
-ghost use Rattle.fields.specs.Said.{Found, lowNumber, digitOf, exactWord, wordIn};
+ghost use Rattle.fields.specs.Said.{Found, lowNumber, digitOf, wordIn};
 
 // A ruleset's number is below 32, so it has two digits at most.
 const MOST_DIGITS: usize = 2;
@@ -93,7 +95,7 @@ pub fn number(text: &[u8], at: usize, end: usize) -> usize
 
 // The word of an exact part; 0 if the byte is none. A byte is one if it is a part of a table that has no rulesets.
 fn exact(byte: u8) -> usize
-    ensures answers { λ r. ⌜ r ≡ exactWord byte ⌝ }
+    ensures answers { λ r. ⌜ r ≡ wordIn 0 (some (Exact byte)) ⌝ }
 {
     let word = byte as usize;
     if acceptance::is_part(word, 0) {
