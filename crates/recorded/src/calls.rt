@@ -1,16 +1,16 @@
 // A call: its parts are read one by one, each into an array of its own, and then it is made. A function here that returns
 // a bool says whether to go on: a part that its array has no room for stops the replay.
-use crate::input::copy_name;
-use crate::input::length;
-use crate::input::number;
 use crate::input::read_line;
 use crate::input::read_list;
 use crate::input::read_sheet;
-use crate::input::read_table;
-use crate::input::room;
-use crate::output::say;
 use crate::output::tell;
 use crate::output::tell_selection;
+use sample::copy_name;
+use sample::length;
+use sample::number;
+use sample::read_words;
+use sample::say;
+use sample::words_of;
 use tholdrimash::TholdrimashAnswer;
 
 // What the arrays have room for. A table, a line, a sheet and a list may be longer than the longest good ones.
@@ -64,7 +64,7 @@ fn matching(asked: Asked, table: &[u16], line: &[u8], sheet: &[u8], buffer: &mut
 
 fn with_sheet(asked: Asked, table: &[u16], line: &[u8], sheet: &[u8]) -> bool {
     let mut buffer = [UNTOUCHED; ANSWER];
-    let n = room(&buffer, asked.room);
+    let n = words_of(&buffer, asked.room);
     if n < asked.room {
         return too_long();
     }
@@ -95,7 +95,7 @@ fn with_table(asked: Asked, table: &[u16]) -> bool {
 fn with_asked(asked: Asked) -> bool {
     let mut table = [0u16; TABLE];
     let wanted = length();
-    let n = read_table(&mut table, wanted);
+    let n = read_words(&mut table, wanted);
     if n < wanted {
         return too_long();
     }
@@ -120,7 +120,7 @@ fn select(last: u32, list: &mut [u32], buffer: &mut [u16]) {
 
 fn with_list(last: u32, wanted: usize, list: &mut [u32]) -> bool {
     let mut buffer = [UNTOUCHED; CHOICE];
-    let n = room(&buffer, wanted);
+    let n = words_of(&buffer, wanted);
     if n < wanted {
         return too_long();
     }

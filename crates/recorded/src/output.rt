@@ -1,17 +1,8 @@
-// Standard output: text, numbers, and what a call returned.
-use libc::STDOUT_FILENO;
+// What a call returned, on standard output.
+use sample::put;
+use sample::say;
 use tholdrimash::TholdrimashAnswer;
 use tholdrimash::TholdrimashSelection;
-
-pub fn say(text: &[u8]) {
-    io::write_all(STDOUT_FILENO, text);
-}
-
-// Writes a number after a space.
-fn put(n: u32) {
-    say(b" ");
-    io::print_decimal(STDOUT_FILENO, n as u64);
-}
 
 fn put_word(word: u16) {
     put(word as u32);

@@ -1,19 +1,19 @@
 // A call: its parts are read one by one, each into an array of its own, and then it is made. A function here that returns
 // a bool says whether to go on: a part that its array has no room for stops the replay.
 use crate::input::bytes_of;
-use crate::input::copy_name;
-use crate::input::number;
 use crate::input::read_text;
-use crate::input::read_words;
 use crate::input::word;
-use crate::input::words_of;
 use crate::output::UNTOUCHED_BYTE;
 use crate::output::UNTOUCHED_WORD;
-use crate::output::say;
 use crate::output::tell_read;
 use crate::output::tell_written;
 use listing::reading::read_table;
 use listing::writing::write_table;
+use sample::copy_name;
+use sample::length;
+use sample::read_words;
+use sample::say;
+use sample::words_of;
 
 // What the arrays have room for. A table has at most 9,763 words and a listing at most 41,440 bytes: these are some more, so
 // that a table or a text that passes a limit can be lent too.
@@ -42,7 +42,7 @@ fn with_text(wanted: usize, text: &[u8]) -> bool {
 }
 
 fn read_call() -> bool {
-    let room = number();
+    let room = length();
     let mut text = [0u8; BYTES];
     let n = read_text(&mut text);
     if n == BYTES {
@@ -67,9 +67,9 @@ fn with_table(wanted: usize, table: &[u16]) -> bool {
 }
 
 fn write_call() -> bool {
-    let room = number();
+    let room = length();
     let mut table = [0u16; WORDS];
-    let wanted = number();
+    let wanted = length();
     let n = read_words(&mut table, wanted);
     if n < wanted {
         return too_long();

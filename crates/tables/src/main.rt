@@ -14,7 +14,7 @@ mod input;
 mod output;
 
 fn main() {
-    let mut turns = input::TURNS;
+    let mut turns = sample::TURNS;
     while turns > 0 && calls::replay() {
         turns -= 1;
     }

@@ -1,22 +1,13 @@
-// Standard output: text, numbers, and what a call returned, with the room as it is left.
-use libc::STDOUT_FILENO;
+// What a call returned, on standard output, with the room as it is left.
 use listing::reading::ReadAnswer;
 use listing::writing::WriteAnswer;
+use sample::put;
+use sample::say;
 
 // What stands at each place of a room before a call. No table has this word, and no listing this byte.
 pub const UNTOUCHED_WORD: u16 = 65_535;
 
 pub const UNTOUCHED_BYTE: u8 = b';';
-
-pub fn say(text: &[u8]) {
-    io::write_all(STDOUT_FILENO, text);
-}
-
-// Writes a number after a space.
-fn put(n: u32) {
-    say(b" ");
-    io::print_decimal(STDOUT_FILENO, n as u64);
-}
 
 // An answer's fields that are not always 0, and the stroke before the room.
 fn put_fields(number: u32, words: u32, place: u32) {

@@ -1,8 +1,8 @@
 -- The loop needs nothing of what it has read. The measure is the number of turns that are left.
 use borrow.Author.Needs.{needs}
 use Prim.Native.Nat.{_≤_}
-use Rattle.recorded.proofs.input.number.Statement.{statement}
-use Rattle.recorded.proofs.input.number.Tie as tie
+use Rattle.sample.proofs.number.Statement.{statement}
+use Rattle.sample.proofs.number.Tie as tie
 
 abbrev Inv-loop : tie.InvT-loop
 Inv-loop n₀ begun₀ turns₀ n begun turns = 0 ≤ turns

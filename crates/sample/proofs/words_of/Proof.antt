@@ -1,8 +1,8 @@
 -- The count is at most the length.
 use borrow.Author.Needs.{needs}
 use Rattle.io.proofs.Counting.{counts}
-use Rattle.tables.proofs.input.words_of.Statement.{statement}
-use Rattle.tables.proofs.input.words_of.Tie as tie
+use Rattle.sample.proofs.words_of.Statement.{statement}
+use Rattle.sample.proofs.words_of.Tie as tie
 
 at-most-requires : tie.Need-at-most-requires
 at-most-requires c κs = search needs

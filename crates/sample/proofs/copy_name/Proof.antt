@@ -1,8 +1,8 @@
 -- The loop needs nothing of what it has read. The measure is the number of turns that are left.
 use borrow.Author.Needs.{needs}
 use Prim.Native.Nat.{_≤_}
-use Rattle.recorded.proofs.input.copy_name.Statement.{statement}
-use Rattle.recorded.proofs.input.copy_name.Tie as tie
+use Rattle.sample.proofs.copy_name.Statement.{statement}
+use Rattle.sample.proofs.copy_name.Tie as tie
 
 abbrev Inv-loop : tie.InvT-loop
 Inv-loop turns₀ turns = 0 ≤ turns

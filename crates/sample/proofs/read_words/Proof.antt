@@ -4,8 +4,8 @@ use mathlib.Core.Path.{_≡_}
 use Prim.Native.Nat.{_-_}
 use lib.ListN.{length}
 use Rattle.io.proofs.Counting.{counts}
-use Rattle.recorded.proofs.input.read_table.Statement.{statement}
-use Rattle.recorded.proofs.input.read_table.Tie as tie
+use Rattle.sample.proofs.read_words.Statement.{statement}
+use Rattle.sample.proofs.read_words.Tie as tie
 
 abbrev Inv-loop : tie.InvT-loop
 Inv-loop table₀ wanted n i₀ table i = length table ≡ length table₀
@@ -43,8 +43,8 @@ same-length c = search needs
 returns : tie.Need-returns Inv-loop μ-loop
 returns c = counts _ _ (search needs)
 
-pub read-table-spec : {M : Type 1} → statement M
-read-table-spec =
+pub read-words-spec : {M : Type 1} → statement M
+read-words-spec =
     tie.close
     (tie.spec
     Inv-loop
