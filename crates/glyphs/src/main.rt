@@ -21,7 +21,7 @@ use crate::table::LISTING;
 use crate::table::MOST_WORDS;
 use listing::reading::ReadAnswer;
 use listing::reading::read_table;
-use matcher::Answer;
+use trials::Answer;
 
 const IN: i32 = 0;
 

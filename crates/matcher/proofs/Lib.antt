@@ -1,4 +1,2 @@
-pub mod Checks
-pub mod Tries
-pub mod Telling
+pub mod Promised
 pub mod Tight

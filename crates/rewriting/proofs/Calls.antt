@@ -17,8 +17,8 @@ use Rattle.readings.specs.Scene.{Scene}
 use Rattle.readings.specs.Walk.{topPairs}
 use Rattle.readings.specs.Lookup.{foundPairs}
 use Rattle.readings.specs.Call.{callWith, scanCall, lookupCall}
-use Rattle.matcher.specs.declared.Answer.{Answer}
-use Rattle.matcher.specs.Told.{says}
+use Rattle.trials.specs.declared.Answer.{Answer}
+use Rattle.trials.specs.Told.{says}
 use Rattle.matcher.proofs.match_instr.Reads as match-instr
 use Rattle.matcher.proofs.match_with_ruledef_map.Reads as match-with-ruledef-map
 use Rattle.rewriting.proofs.Rewriting.{rewritten-call}

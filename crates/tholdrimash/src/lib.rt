@@ -3,8 +3,8 @@
 // length.
 use listing::reading::ReadAnswer;
 use listing::writing::WriteAnswer;
-use matcher::Answer;
 use resolver::instruction::Selection;
+use trials::Answer;
 ghost use mathlib.Core.Path.{_≡_};
 ghost use mathlib.Core.Bool.{not};
 ghost use mathlib.Core.List.{List};
@@ -13,7 +13,7 @@ ghost use lib.Dec.{eqb};
 ghost use Rattle.readings.specs.Call.{Accepted, scanCall, lookupCall};
 ghost use Rattle.readings.specs.Demand.{Within, Demand3};
 ghost use Rattle.readings.specs.Scene.{sceneOf};
-ghost use Rattle.matcher.specs.Told.{says};
+ghost use Rattle.trials.specs.Told.{says};
 ghost use Rattle.tholdrimash.specs.Interface.{told, chose, ChosenOnLast};
 ghost use Rattle.resolver.specs.Selection.{selected, selectionSays};
 ghost use Rattle.listing.specs.Calls.{ReadCall, writeCall, readSays, writeSays};

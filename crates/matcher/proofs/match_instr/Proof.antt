@@ -1,4 +1,4 @@
-use Rattle.matcher.proofs.Telling.{scan-reads}
+use Rattle.matcher.proofs.Promised.{scan-reads}
 use borrow.Author.Needs.{needs}
 use Rattle.matcher.proofs.match_instr.Statement.{statement}
 use Rattle.matcher.proofs.match_instr.Tie as tie

@@ -1,4 +1,4 @@
-use Rattle.matcher.proofs.Telling.{lookup-reads, lookup-visits, lookup-tells}
+use Rattle.matcher.proofs.Promised.{lookup-reads, lookup-visits, lookup-tells}
 use borrow.Author.Needs.{needs}
 use Rattle.matcher.proofs.match_with_ruledef_map.Statement.{statement}
 use Rattle.matcher.proofs.match_with_ruledef_map.Tie as tie

@@ -1,6 +1,6 @@
 -- `tholdrimash::fields` meets its contract, case by case.
 use mathlib.Core.Path.{refl}
-use Rattle.matcher.specs.Told.{says}
+use Rattle.trials.specs.Told.{says}
 use Rattle.tholdrimash.proofs.Said.{fields-of}
 use borrow.Author.Needs.{needs}
 use Rattle.tholdrimash.proofs.fields.Statement.{statement}

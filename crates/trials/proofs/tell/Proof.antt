@@ -1,10 +1,10 @@
 use native.Mathlib.Omega.{arith}
-use Rattle.matcher.proofs.Telling.{words-of, tell-none, tell-long, tell-matched}
+use Rattle.trials.proofs.Telling.{words-of, tell-none, tell-long, tell-matched}
 use borrow.Author.Needs.{needs}
-use Rattle.matcher.proofs.tell.Statement.{statement}
-use Rattle.matcher.proofs.tell.Tie as tie
-use Rattle.matcher.proofs.tell.Reads as reads
-use Rattle.matcher.proofs.tell.Lts as lts
+use Rattle.trials.proofs.tell.Statement.{statement}
+use Rattle.trials.proofs.tell.Tie as tie
+use Rattle.trials.proofs.tell.Reads as reads
+use Rattle.trials.proofs.tell.Lts as lts
 use Rattle.answer.proofs.measure_answer.Reads as measure-answer-reads
 use Rattle.answer.proofs.write_answer.Reads as write-answer-reads
 

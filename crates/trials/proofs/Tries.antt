@@ -1,22 +1,16 @@
--- The top rules that a call tries: the records that scan or lookup lists, each walked on the whole line at depth 0. The pool
--- is empty at the start, so the log is what the walks left, and its matches of depth 0 are those that the plan lists.
+-- The rules that were chosen, each walked on the whole line at depth 0 from its prepared place. The pool is empty at the start, so the log is what the walks left, and its matches of depth 0 are those that the plan lists.
 use mathlib.Core.Path.{_≡_, refl, sym, ap, subst, _∙_}
 use mathlib.Core.Bool.{true}
 use mathlib.Core.List.{List, [], _∷_, _++_, map, map-id, List·Memᴰ}
-use Prim.Native.Nat.{ℕ, _+_, _-_, _≤_, _<_}
+use Prim.Native.Nat.{ℕ, _+_, _*_, _-_, _≤_, _<_}
 use native.Mathlib.Omega.{arith}
 use lib.Dec.{eqb}
 use lib.ListN.{length, getD, take, drop, length-take}
 use lib.Seq.{take-at, getD-take, length-take-le}
-use Rattle.plain.proofs.Lists.{listed-length, listed-at}
 use Rattle.syntax.specs.declared.walker.Walker.{Walker}
-use Rattle.defs.specs.Table.{tableFits, recordsIn, rulesetAt, partsBetween, ruleSpan}
-use Rattle.defs.specs.Ruledef.{startsOf, beginsAt}
-use Rattle.ruledef_map.specs.RuledefMap.{linePrefix, heldPrefix, prefixBytes, topRules, foundRules, putRules}
+use Rattle.defs.specs.Table.{recordsIn, rulesetAt, partsBetween, ruleSpan}
 use Rattle.defs.specs.declared.ruledef.Part.{Part}
 use Rattle.defs.specs.declared.ruledef.Parts.{Parts}
-use Rattle.ruledef_map.specs.declared.Prefix.{Prefix}
-use Rattle.ruledef_map.proofs.Orders.{put-all}
 use Rattle.defs.proofs.Words.{parts-whole}
 use Rattle.line.proofs.Lines.{good-is}
 use Rattle.readings.specs.Scene.{Scene, sceneOf}
@@ -24,64 +18,25 @@ use Rattle.readings.specs.Tree.{node}
 use Rattle.readings.specs.Plan.{Plan, give, done, run, each, _then_}
 use Rattle.readings.specs.Walk.{Found, Match, named, walk, under, depths, trial, tries}
 use Rattle.readings.specs.Records.{pairOf}
-use Rattle.readings.proofs.Records.{pair-parts, pair-within, few-records, span-within, top-many, found-many, top-below, found-below}
+use Rattle.readings.proofs.Records.{pair-parts, pair-within, few-records, span-within}
 use Rattle.pool.specs.declared.Pool.{Pool}
 use Rattle.pool.specs.declared.Record.{Record}
 use Rattle.pool.specs.Log.{logOf}
 use Rattle.pool.specs.Meaning.{chainAt, Earlier, Stored}
 use Rattle.pool.proofs.Words.{log-none}
 use Rattle.pool.proofs.Meanings.{earlier-none}
-use Rattle.matcher.specs.declared.Order.{Order}
-use Rattle.matcher.specs.declared.Order.the-variants.{Scan, Lookup}
 use Rattle.walk.specs.declared.Place.{Place}
 use Rattle.walk.specs.declared.Walked.{Walked}
 use Rattle.walk.specs.declared.Walked.the-variants.{Done, Stopped}
 use Rattle.walk.specs.declared.Refusal.{Refusal}
 use Rattle.walk.specs.Met.{finishes, partsPlan, rulePlan, ran, Ready, Made, wholeAt, Left}
-use Rattle.matcher.specs.Told.{rulesOf, TryAsked, Tried, listed, stopped}
+use Rattle.places.specs.Places.{PlacedAt}
+use Rattle.places.proofs.Words.{table-short}
+use Rattle.trials.specs.Told.{TryAsked, Tried, listed, stopped}
 use Rattle.walk.proofs.Outcomes.{mapped-done, mapped-stop}
-use Rattle.walk.proofs.Held.{held-is, member-at}
 use Rattle.walk.proofs.Loops.{Did, did-none, index-end, index-more, index-stop}
 use Rattle.walk.proofs.Turned.{reached, refused}
 use Rattle.walk.proofs.Rules.{itself}
-
--- ---- the records listed
-
-put-taken : (t rules buffer b : List ℕ) (n : ℕ) → recordsIn t ≤ 512 → length buffer ≡ 512 → (b, n) ≡ putRules t rules buffer → (take n b ≡ rules) × (n ≡ length rules)
-put-taken t rules buffer b n few long e =
-    let q : _≡_ {A = List ℕ × ℕ} (b, n) (rules ++ drop (length rules) buffer, length rules) = e ∙ sym (put-all t rules buffer few (omega arith)) in
-    let m : n ≡ length rules = ap (λ (x : List ℕ × ℕ). x .1) q in
-    (ap (take n) (ap (λ (x : List ℕ × ℕ). x .0) q) ∙ take-at rules (drop (length rules) buffer) n (sym m), m)
-
-prefix-few : (line : List ℕ) → length (linePrefix line) ≤ 4
-unfolding linePrefix
-prefix-few line = simp (linePrefix, length-take) (omega arith)
-
-prefix-is : (line : List ℕ) (p : Prefix) → p ≡ heldPrefix (linePrefix line) → prefixBytes p ≡ linePrefix line
-unfolding heldPrefix
-prefix-is line p e = ap prefixBytes e ∙ held-is 4 (linePrefix line) (prefix-few line)
-
-module _ (t line buffer b : List ℕ) (n : ℕ) (how : Order) (ok : tableFits t ≡ true) (long : length buffer ≡ 512) where
-  pub listed-scan : how ≡ Scan → (b, n) ≡ putRules t (topRules t) buffer → (take n b ≡ rulesOf how t line) × (n ≤ 512)
-  listed-scan e q =
-      let (i, j) = put-taken t (topRules t) buffer b n (few-records t line [] ok) long q in
-      (i ∙ ap (λ (h : Order). rulesOf h t line) (sym e), omega (arith, j, top-many t line [] ok))
-
-  pub listed-lookup : how ≡ Lookup → (p : Prefix) → p ≡ heldPrefix (linePrefix line) → (b, n) ≡ putRules t (foundRules t (prefixBytes p)) buffer → (take n b ≡ rulesOf how t line) × (n ≤ 512)
-  listed-lookup e p is q =
-      let (i, j) = put-taken t (foundRules t (prefixBytes p)) buffer b n (few-records t line [] ok) long q in
-      let k = ap (foundRules t) (prefix-is line p is) in
-      (i ∙ k ∙ ap (λ (h : Order). rulesOf h t line) (sym e), omega (arith, j, ap length k, found-many t line [] ok (linePrefix line) (prefix-few line)))
-
-module _ (t line b : List ℕ) (n : ℕ) (how : Order) (ok : tableFits t ≡ true) where
-  pub tried-below : take n b ≡ rulesOf how t line → n ≤ length b → (i : ℕ) → i < n → getD b i 0 < recordsIn t
-  tried-below e h i k =
-      let here : getD (take n b) i 0 ≡ getD b i 0 = getD-take n b i 0 k in
-      subst (λ (x : ℕ). x < recordsIn t) here (below how (subst (List·Memᴰ (getD (take n b) i 0)) e (member-at (take n b) i (omega (arith, length-take-le n b h)))))
-    where
-      below : (h : Order) {x : ℕ} → List·Memᴰ x (rulesOf h t line) → x < recordsIn t
-      below Scan m = top-below t line [] ok m
-      below Lookup m = found-below t line [] ok (linePrefix line) m
 
 -- ---- each tried
 
@@ -97,7 +52,7 @@ unfolding tries each
 tries-are t line sheet [] = refl
 tries-are t line sheet (i ∷ is) = ap (λ (p : Plan (List Match)). trialOf t line sheet i then λ a. p then λ b. give (a ++ b)) (tries-are t line sheet is)
 
-module _ {t line sheet starts store₀ rules : List ℕ} {count visits : ℕ} (asked : TryAsked t line sheet starts store₀ rules count visits) where
+module _ {t line sheet starts places store₀ rules : List ℕ} {count visits : ℕ} (asked : TryAsked t line sheet starts places store₀ rules count visits) where
   abbrev s : Scene
   s = sceneOf t line sheet
 
@@ -113,38 +68,59 @@ module _ {t line sheet starts store₀ rules : List ℕ} {count visits : ℕ} (a
   long = length-take-le count rules (asked .fits)
 
   module _ (i : ℕ) {u₀ v u : ℕ} {store : List ℕ} (did : TriesDid t line sheet (take count rules) visits u₀ store₀ i v u store) where
-    module _ (h : i < count) (rule : ℕ) (rule-is : rule ≡ getD rules i 0) (group : ℕ) (group-is : group ≡ rulesetAt t rule) where
+    module _ (h : i < count) (rule : ℕ) (rule-is : rule ≡ getD rules i 0) where
       known : rule < recordsIn t
       known = subst (λ (x : ℕ). x < recordsIn t) (sym rule-is) (asked .below i h)
 
-      in-ruleset : (beginsAt t group ≤ rule) × (group < 32)
-      in-ruleset =
-          let (a, b, c) = pair-within t line sheet (asked .accepted .table) rule known in
-          (subst (λ (x : ℕ). beginsAt t x ≤ rule) (sym group-is) a, omega (arith, group-is))
+      placed-here : PlacedAt t places rule
+      placed-here = subst (PlacedAt t places) (sym rule-is) (asked .placed .each i h)
 
-      pub starts-there : (group < length starts) × (getD starts group 0 ≤ rule) × (rule < 512)
-      unfolding startsOf
-      starts-there =
-          (omega (arith, ap length (asked .begins) ∙ listed-length 33 (beginsAt t), in-ruleset .1), omega (arith, start-is, in-ruleset .0), omega (arith, known, few-records t line sheet (asked .accepted .table)))
-        where
-          start-is : getD starts group 0 ≡ beginsAt t group
-          start-is = ap (λ (l : List ℕ). getD l group 0) (asked .begins) ∙ listed-at 33 (beginsAt t) group (omega (arith, in-ruleset .1))
+      -- where the rule's words stand
+      pub words-there : (rule < 512) × (4 * rule + 3 < length places)
+      words-there = let few : rule < 512 = omega (arith, known, few-records t line sheet (asked .accepted .table)) in (few, omega (arith, few, asked .placed .sized))
 
-      number-is : rule - getD starts group 0 ≡ pairOf t rule .1
-      unfolding startsOf pairOf
-      number-is =
-          ap (λ (b : ℕ). rule - b) (ap (λ (l : List ℕ). getD l group 0) (asked .begins) ∙ listed-at 33 (beginsAt t) group (omega (arith, in-ruleset .1)))
-          ∙ ap (λ (g : ℕ). rule - beginsAt t g) group-is
+      in-ruleset : rulesetAt t rule < 32
+      in-ruleset = pair-within t line sheet (asked .accepted .table) rule known .2
 
-      group-of : group ≡ pairOf t rule .0
+      number-small : pairOf t rule .1 < 512
       unfolding pairOf
-      group-of = group-is
+      number-small = omega (arith, words-there .0)
 
-      module _ (parts : Parts) (span : parts ≡ ruleSpan t rule) (w : Walker) (start : w .cursor ≡ 0) (end-of : w .limit ≡ length line) where
+      group-of : getD places (4 * rule) 0 ≡ pairOf t rule .0
+      unfolding pairOf
+      group-of = placed-here .set
+
+      number-is : getD places (4 * rule + 1) 0 ≡ pairOf t rule .1
+      unfolding pairOf
+      number-is = placed-here .number
+
+      parts : Parts
+      parts = record { at = getD places (4 * rule + 2) 0; end = getD places (4 * rule + 3) 0 }
+
+      span : parts ≡ ruleSpan t rule
+      unfolding parts
+      span = λ k. record { at = placed-here .from k; end = placed-here .to k }
+
+      pub fields-small : (getD places (4 * rule) 0 < 32) × (getD places (4 * rule + 1) 0 < 512) × (getD places (4 * rule + 2) 0 < 65536) × (getD places (4 * rule + 3) 0 < 65536)
+      unfolding parts
+      fields-small =
+          let sp = span-within t line sheet (asked .accepted .table) rule known parts span in
+          let short = table-short t (asked .accepted .table) in
+          (omega (arith, placed-here .set, in-ruleset), omega (arith, number-is, number-small), omega (arith, sp .ordered, sp .within, short), omega (arith, sp .within, short))
+
+      module _ (w : Walker) (start : w .cursor ≡ 0) (end-of : w .limit ≡ length line) where
         abbrev there : Place
-        there = record { set = group; rule = rule - getD starts group 0; at = parts .at; end = parts .end; depth = 0; args = 0 }
+        there = record {
+          set = getD places (4 * rule) 0;
+          rule = getD places (4 * rule + 1) 0;
+          at = getD places (4 * rule + 2) 0;
+          end = getD places (4 * rule + 3) 0;
+          depth = 0;
+          args = 0;
+        }
 
         pub try-ready : (has : Pool) → has .used ≡ u → Ready t line sheet starts store there w has
+        unfolding parts
         try-ready has e =
             let sp = span-within t line sheet (asked .accepted .table) rule known parts span in
             record {
@@ -153,8 +129,8 @@ module _ {t line sheet starts store₀ rules : List ℕ} {count visits : ℕ} (a
               short = short;
               begins = asked .begins;
               stored = subst (Stored store) (sym e) (did .stored);
-              sets = in-ruleset .1;
-              rules = omega (arith, starts-there .2);
+              sets = omega (arith, placed-here .set, in-ruleset);
+              rules = omega (arith, number-is, number-small);
               parts = sp .from;
               ordered = sp .ordered;
               whole = sp .within;
@@ -165,13 +141,17 @@ module _ {t line sheet starts store₀ rules : List ℕ} {count visits : ℕ} (a
               top = λ e. end-of;
             }
 
-        parts-are : partsBetween t (parts .at) (parts .end) ≡ s .parts (pairOf t rule .0) (pairOf t rule .1)
+        parts-are : partsBetween t (getD places (4 * rule + 2) 0) (getD places (4 * rule + 3) 0) ≡ s .parts (pairOf t rule .0) (pairOf t rule .1)
+        unfolding parts
         parts-are = parts-whole t rule parts span ∙ sym (pair-parts t line sheet (asked .accepted .table) rule known)
 
         abbrev walked : Plan (List Found)
         walked = walk s (under s depths) (eqb (length line)) (s .parts (pairOf t rule .0) (pairOf t rule .1)) (length line) 0
 
-        plan-is : rulePlan t line sheet 0 (parts .at) (parts .end) (w .limit) (w .cursor) ≡ walked
+        abbrev planned : Plan (List Found)
+        planned = rulePlan t line sheet 0 (getD places (4 * rule + 2) 0) (getD places (4 * rule + 3) 0) (w .limit) (w .cursor)
+
+        plan-is : planned ≡ walked
         unfolding rulePlan partsPlan finishes
         plan-is =
             ap (λ (ps : List Part). walk s (under s depths) (eqb (length line)) ps (w .limit) (w .cursor)) parts-are
@@ -182,8 +162,8 @@ module _ {t line sheet starts store₀ rules : List ℕ} {count visits : ℕ} (a
         next-rule = rule-is ∙ sym (getD-take count rules i 0 h)
 
         module _ {has : Pool} (used : has .used ≡ u) {r : Walked} {store″ : List ℕ}
-            (m : Left (ran (rulePlan t line sheet 0 (parts .at) (parts .end) (w .limit) (w .cursor)) v has) there (logOf store (has .used)) store″ r) where
-          ran-is : ran (rulePlan t line sheet 0 (parts .at) (parts .end) (w .limit) (w .cursor)) v has ≡ run walked v u
+            (m : Left (ran planned v has) there (logOf store (has .used)) store″ r) where
+          ran-is : ran planned v has ≡ run walked v u
           ran-is = ap (λ (p : Plan (List Found)). run p v (has .used)) plan-is ∙ ap (run walked v) used
 
           named-is : (x : Found) → wholeAt there (logOf store (has .used)) x ≡ named (pairOf t rule .0) (pairOf t rule .1) x

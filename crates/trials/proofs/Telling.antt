@@ -1,26 +1,26 @@
 -- The whole call, told: refused by a check, stopped by the walk, or the matches that the walk left, measured and written.
 -- The matches of depth 0 in the log are those that the plan lists, so the call's definition applies to them.
 use mathlib.Core.Path.{_≡_, refl, sym, ap, subst, _∙_}
+use mathlib.Core.Bool.{true}
 use mathlib.Core.List.{List, [], _∷_, _++_, map, List·Memᴰ, List·Memᴰ·not-nil}
 use Prim.Native.Nat.{ℕ, _+_, _-_, _≤_, _<_}
 use native.Mathlib.Omega.{arith}
 use lib.Dec.{eqb}
-use lib.ListN.{length, drop}
+use lib.ListN.{length, take, drop}
 use borrow.Author.Tests.{eq-eqb}
 use Rattle.plain.specs.Choice.{select}
 use Rattle.plain.specs.Lists.{keepIf}
 use Rattle.plain.specs.Told.{Told}
 use Rattle.plain.proofs.Members.{kept-has}
 use Rattle.ruledef_map.specs.RuledefMap.{linePrefix}
-use Rattle.defs.specs.Ruledef.{startsOf}
+use Rattle.defs.specs.Table.{tableFits}
 use Rattle.readings.specs.Tree.{Tree}
 use Rattle.readings.specs.Scene.{Scene, Lawful, sceneOf}
 use Rattle.readings.specs.Plan.{Outcome, done, stop, run}
 use Rattle.readings.specs.Walk.{Match, tries}
 use Rattle.readings.specs.Records.{pairOf}
 use Rattle.readings.specs.Answer.{exactCount, greatest, greatestCount, best, treeWords, wordsOf, answerWords}
-use Rattle.readings.specs.Call.{Accepted, tree, stoppedAfter, matched, written, callWith, scanCall, lookupCall}
-use Rattle.readings.specs.Demand.{Within, Demand3}
+use Rattle.readings.specs.Call.{Accepted, tree, stoppedAfter, matched, written}
 use Rattle.readings.proofs.Packed.{lawful}
 use Rattle.readings.proofs.Runs.{run-done, stop-left}
 use Rattle.readings.proofs.Scan.{Enough, scan-enough}
@@ -29,25 +29,23 @@ use Rattle.readings.proofs.Best.{reached}
 use Rattle.readings.proofs.Bounds.{small, tree-few, words-few}
 use Rattle.readings.proofs.Calls as Calls
 use Rattle.readings.proofs.Records.{top-pairs, found-pairs}
-use Rattle.readings.proofs.Theorems.{scan-demand, lookup-demand, lookup-agrees}
 use Rattle.pool.specs.declared.Pool.{Pool}
 use Rattle.pool.specs.Meaning.{gathered, meaning, meanings}
 use Rattle.pool.proofs.Meanings.{meanings-more}
 use Rattle.trees.proofs.Counts.{count-free}
 use Rattle.answer.specs.Measured.{treesIn, measured}
 use Rattle.answer.specs.declared.Measure.{Measure}
-use Rattle.matcher.specs.declared.Answer.{Answer}
-use Rattle.matcher.specs.declared.Answer.the-variants.{Matched, NoMatch, TooLong}
-use Rattle.matcher.specs.declared.Checked.{Checked}
-use Rattle.matcher.specs.declared.Checked.the-variants.{Good, Bad}
-use Rattle.matcher.specs.declared.Order.{Order}
-use Rattle.matcher.specs.declared.Order.the-variants.{Scan, Lookup}
+use Rattle.trials.specs.declared.Answer.{Answer}
+use Rattle.trials.specs.declared.Answer.the-variants.{Matched, NoMatch, TooLong}
+use Rattle.trials.specs.declared.Checked.{Checked}
+use Rattle.trials.specs.declared.Checked.the-variants.{Good, Bad}
 use Rattle.walk.specs.declared.Walked.{Walked}
 use Rattle.walk.specs.declared.Walked.the-variants.{Done, Stopped}
 use Rattle.walk.specs.declared.Refusal.{Refusal}
 use Rattle.walk.specs.declared.Refusal.the-variants as Refusal
 use Rattle.walk.specs.Met.{numberOf}
-use Rattle.matcher.specs.Told.{says, orderOf, rulesOf, CheckedAs, accepts, refuses, Listed, Tried, listed, stopped, TellAsked, stoppedBy}
+use Rattle.trials.proofs.Choices.{chosen-at}
+use Rattle.trials.specs.Told.{says, listedCall, triedPairs, LineAccepted, CheckedAs, accepts, refuses, Chosen, all-tops, by-prefix, Listed, Tried, listed, stopped, TryAsked, TellAsked, ReadAsked, stoppedBy}
 
 -- ---- the scene's line and sheet do not matter to the answer's words
 
@@ -125,21 +123,25 @@ module _ (t : List ℕ) (ts : List Tree) (v : ℕ) (b : List ℕ) (found : Measu
 
 -- ---- the whole call
 
-order-enough : (how : Order) (s : Scene) → Lawful s → Enough s (orderOf how s)
-order-enough Scan s law = scan-enough s law
-order-enough Lookup s law = lookup-enough s law
+chosen-enough : (t line sheet rules : List ℕ) → tableFits t ≡ true → Lawful (sceneOf t line sheet) → Chosen t line rules → Enough (sceneOf t line sheet) (map (pairOf t) rules)
+unfolding sceneOf
+chosen-enough t line sheet rules ok law (all-tops e) =
+    subst (Enough (sceneOf t line sheet)) (top-pairs t line sheet ok ∙ ap (map (pairOf t)) (sym e)) (scan-enough (sceneOf t line sheet) law)
+chosen-enough t line sheet rules ok law (by-prefix e) =
+    subst (Enough (sceneOf t line sheet)) (found-pairs t line sheet ok (linePrefix line) ∙ ap (map (pairOf t)) (sym e)) (lookup-enough (sceneOf t line sheet) law)
 
-pub refused-tells : {t line sheet : List ℕ} {budget : ℕ} {r : Checked} {a : Answer} → CheckedAs t line sheet budget r → r ≡ Bad a
-    → (how : Order) (b : List ℕ) → says a b ≡ callWith (orderOf how) t line sheet budget b
-refused-tells {t} {line} {sheet} {budget} c e = go (subst (CheckedAs t line sheet budget) e c)
+-- a refusal of the line's checks is the whole call's, for an accepted table
+pub refused-tells : {line sheet : List ℕ} {budget : ℕ} {r : Checked} {a : Answer} → CheckedAs line sheet budget r → r ≡ Bad a
+    → (t : List ℕ) → tableFits t ≡ true → (rules : List (ℕ × ℕ)) (b : List ℕ) → says a b ≡ listedCall rules t line sheet budget b
+refused-tells {line} {sheet} {budget} c e = go (subst (CheckedAs line sheet budget) e c)
   where
-    go : {a : Answer} → CheckedAs t line sheet budget (Bad a) → (how : Order) (b : List ℕ) → says a b ≡ callWith (orderOf how) t line sheet budget b
+    go : {a : Answer} → CheckedAs line sheet budget (Bad a) → (t : List ℕ) → tableFits t ≡ true → (rules : List (ℕ × ℕ)) (b : List ℕ) → says a b ≡ listedCall rules t line sheet budget b
     go (refuses k) = k
 
-pub accepted-by : {t line sheet : List ℕ} {budget : ℕ} {r : Checked} → CheckedAs t line sheet budget r → r ≡ Good → Accepted t line sheet budget
-accepted-by {t} {line} {sheet} {budget} c e = go (subst (CheckedAs t line sheet budget) e c)
+pub accepted-by : {line sheet : List ℕ} {budget : ℕ} {r : Checked} → CheckedAs line sheet budget r → r ≡ Good → LineAccepted line sheet budget
+accepted-by {line} {sheet} {budget} c e = go (subst (CheckedAs line sheet budget) e c)
   where
-    go : CheckedAs t line sheet budget Good → Accepted t line sheet budget
+    go : CheckedAs line sheet budget Good → LineAccepted line sheet budget
     go (accepts a) = a
 
 pub listed-by : {o : Outcome (List Match)} {store : List ℕ} {r : Walked} {left : ℕ} {pool : Pool} → Tried o store r → r ≡ Done left pool → Listed o store left pool
@@ -154,23 +156,31 @@ stopped-by {o} {store} m e = go (subst (Tried o store) e m)
     go : {why : Refusal} {left : ℕ} → Tried o store (Stopped why left) → o ≡ stop (numberOf why) left
     go (stopped x) = x
 
-module _ {t line sheet : List ℕ} {budget : ℕ} (ok : Accepted t line sheet budget) (how : Order) (rules : List ℕ) (rules-are : rules ≡ rulesOf how t line) where
+module _ {t line sheet starts places store₀ rules : List ℕ} {count budget : ℕ} (asked : ReadAsked t line sheet starts places store₀ rules count budget) where
+  ok : Accepted t line sheet budget
+  ok = record { table = asked .table; bytes = asked .lined .bytes; extents = asked .lined .extents; visits = asked .lined .visits }
+
   abbrev scene : Scene
   scene = sceneOf t line sheet
 
-  order-is : map (pairOf t) rules ≡ orderOf how scene
-  unfolding sceneOf
-  order-is = ap (map (pairOf t)) rules-are ∙ go how
-    where
-      go : (h : Order) → map (pairOf t) (rulesOf h t line) ≡ orderOf h (sceneOf t line sheet)
-      go Scan = sym (top-pairs t line sheet (ok .table))
-      go Lookup = sym (found-pairs t line sheet (ok .table) (linePrefix line))
+  abbrev pairs : List (ℕ × ℕ)
+  pairs = triedPairs t rules count
 
   abbrev walked : Outcome (List Match)
-  walked = run (tries scene (map (pairOf t) rules)) budget 0
+  walked = run (tries scene pairs) budget 0
 
-  in-order : walked ≡ run (tries scene (orderOf how scene)) budget 0
-  in-order = ap (λ (xs : List (ℕ × ℕ)). run (tries scene xs) budget 0) order-is
+  enough : Enough scene pairs
+  enough = chosen-enough t line sheet (take count rules) (asked .table) (lawful t line sheet (ok .extents)) (asked .chosen)
+
+  pub try-asked : TryAsked t line sheet starts places store₀ rules count budget
+  try-asked = record {
+    accepted = ok;
+    begins = asked .begins;
+    placed = asked .placed;
+    sized = asked .sized;
+    fits = asked .fits;
+    below = chosen-at t line (asked .table) rules count (asked .chosen) (asked .fits);
+  }
 
   says-stopped : (why : Refusal) (v : ℕ) (b : List ℕ) → says (stoppedBy why v) b ≡ stoppedAfter (numberOf why) v b
   says-stopped Refusal.Spent v b = refl
@@ -179,62 +189,43 @@ module _ {t line sheet : List ℕ} {budget : ℕ} (ok : Accepted t line sheet bu
 
   module _ (why : Refusal) {left : ℕ} (e : walked ≡ stop (numberOf why) left) where
     pub call-within : left ≤ budget
-    call-within = stop-left (tries scene (map (pairOf t) rules)) budget 0 e
+    call-within = stop-left (tries scene pairs) budget 0 e
 
-    pub call-stopped : (a : Answer) (v : ℕ) (b : List ℕ) → v ≡ budget - left → a ≡ stoppedBy why v → says a b ≡ callWith (orderOf how) t line sheet budget b
+    pub call-stopped : (a : Answer) (v : ℕ) (b : List ℕ) → v ≡ budget - left → a ≡ stoppedBy why v → says a b ≡ listedCall pairs t line sheet budget b
     call-stopped a v b n q =
         ap (λ (x : Answer). says x b) q ∙ says-stopped why v b ∙ ap (λ (k : ℕ). stoppedAfter (numberOf why) k b) n
-        ∙ sym (Calls.stopped (orderOf how) t line sheet budget b ok (numberOf why) left (sym in-order ∙ e))
+        ∙ sym (Calls.stopped (λ s. pairs) t line sheet budget b ok (numberOf why) left e)
 
   module _ {store : List ℕ} {left : ℕ} {pool : Pool} (l : Listed walked store left pool) where
     law : Lawful scene
     law = lawful t line sheet (ok .extents)
 
-    ended : run (tries scene (orderOf how scene)) budget 0 ≡ done left (pool .used) (l .matches)
-    ended = sym in-order ∙ l .done-with
-
     pub call-left : left ≤ budget
-    call-left = let (_, i, _) = run-done (tries scene (orderOf how scene)) budget 0 ended in omega arith
+    call-left = let (_, i, _) = run-done (tries scene pairs) budget 0 (l .done-with) in omega arith
 
     trees-are : treesIn store (pool .used) ≡ map tree (l .matches)
     unfolding meaning
     trees-are = ap (λ (ms : List Match). map tree ms) (ap (λ log. gathered 0 (meanings log)) (l .made .grown) ∙ ap (gathered 0) (meanings-more [] (l .made .new)) ∙ l .made .found)
 
-    pub call-asked : {starts : List ℕ} → starts ≡ startsOf t → length store ≡ 4096 → TellAsked t starts store (pool .used)
-    call-asked begins sized = record {
+    pub call-asked : length store ≡ 4096 → TellAsked t starts store (pool .used)
+    call-asked sized = record {
       stored = record { sized = sized; room = l .room; earlier = l .made .earlier };
-      begun = record { begins = begins; fits = ok .table };
+      begun = record { begins = asked .begins; fits = ok .table };
       bounded = record {
         counts = λ u m. omega (arith, few u (subst (List·Memᴰ u) trees-are m) .0, count-free t line sheet u);
         words = λ u m. few u (subst (List·Memᴰ u) trees-are m) .1;
       };
       words = subst (λ (ts : List Tree). length (answerWords (sceneOf t [] []) ts) ≤ 12589058) (sym trees-are)
           (subst (λ (ws : List ℕ). length ws ≤ 12589058) (words-free t line sheet (map tree (l .matches)))
-          (words-few scene law (small t line sheet budget ok) (orderOf how scene) (order-enough how scene law) budget ended));
+          (words-few scene law (small t line sheet budget ok) pairs enough budget (l .done-with)));
     }
       where
         few : (u : Tree) → List·Memᴰ u (map tree (l .matches)) → (exactCount scene u ≤ 120) × (length (treeWords u) ≤ 12288)
-        few u m = tree-few scene law (small t line sheet budget ok) (orderOf how scene) (order-enough how scene law) budget ended u m
+        few u m = tree-few scene law (small t line sheet budget ok) pairs enough budget (l .done-with) u m
 
     pub call-told : (v : ℕ) (b : List ℕ) (r : Told) → v ≡ budget - left → r ≡ matched (sceneOf t [] []) v (treesIn store (pool .used)) b
-        → r ≡ callWith (orderOf how) t line sheet budget b
+        → r ≡ listedCall pairs t line sheet budget b
     call-told v b r n q =
         q ∙ ap (λ (ts : List Tree). matched (sceneOf t [] []) v ts b) trees-are ∙ sym (matched-free t line sheet v (map tree (l .matches)) b)
         ∙ ap (λ (k : ℕ). matched scene k (map tree (l .matches)) b) n
-        ∙ sym (Calls.walked-through (orderOf how) t line sheet budget b ok left (pool .used) (l .matches) ended)
-
--- ---- demand 3, in the contracts
-
-module _ (t line sheet : List ℕ) (budget : ℕ) (b : List ℕ) (r : Told) where
-  pub scan-reads : r ≡ scanCall t line sheet budget b → Accepted t line sheet budget → Within t line sheet budget → Demand3 (sceneOf t line sheet) b r
-  scan-reads e ok w = subst (Demand3 (sceneOf t line sheet) b) (sym e) (scan-demand t line sheet budget b ok w)
-
-  module _ (e : r ≡ lookupCall t line sheet budget b) (ok : Accepted t line sheet budget) (w : Within t line sheet budget) where
-    pub lookup-reads : Demand3 (sceneOf t line sheet) b r
-    lookup-reads = subst (Demand3 (sceneOf t line sheet) b) (sym e) (lookup-demand t line sheet budget b ok w .0)
-
-    pub lookup-visits : r .visits ≤ scanCall t line sheet budget b .visits
-    lookup-visits = subst (λ (x : Told). x .visits ≤ scanCall t line sheet budget b .visits) (sym e) (lookup-demand t line sheet budget b ok w .1)
-
-    pub lookup-tells : (r .number ≡ scanCall t line sheet budget b .number) × (r .words ≡ scanCall t line sheet budget b .words)
-    lookup-tells = let (n, m) = lookup-agrees t line sheet budget b ok w in (ap (λ (x : Told). x .number) e ∙ n, ap (λ (x : Told). x .words) e ∙ m)
+        ∙ sym (Calls.walked-through (λ s. pairs) t line sheet budget b ok left (pool .used) (l .matches) (l .done-with))

@@ -1,8 +1,8 @@
 use borrow.Author.Needs.{needs}
-use Rattle.matcher.proofs.stopped.Statement.{statement}
-use Rattle.matcher.proofs.stopped.Tie as tie
-use Rattle.matcher.proofs.stopped.Reads as reads
-use Rattle.matcher.proofs.stopped.Lts as lts
+use Rattle.trials.proofs.stopped.Statement.{statement}
+use Rattle.trials.proofs.stopped.Tie as tie
+use Rattle.trials.proofs.stopped.Reads as reads
+use Rattle.trials.proofs.stopped.Lts as lts
 
 -- src/lib.rt:165:27
 enum-told : tie.Need-enum-told

@@ -1,4 +1,4 @@
--- The checks of a call: what each finds is what the whole call's definition tests, in its order.
+-- The checks of a line: what each finds is what the whole call's definition tests after the table, in its order.
 use mathlib.Core.Path.{_≡_, refl, sym, ap, _∙_}
 use mathlib.Core.Bool.{Bool, true, false}
 use mathlib.Core.Option.{Option, none, some, Option·none-ne-some, Option·some-inj}
@@ -13,13 +13,12 @@ use Rattle.plain.proofs.Tests.{and-both, and-false-left, and-false-right}
 use Rattle.line.specs.Line.{isAllowed, firstBad, endsOpen, orElse, faultAt, numbered, lineSays, lineVerdict}
 use Rattle.line.specs.declared.LineCheck.{LineCheck}
 use Rattle.line.specs.declared.LineCheck.the-variants as LineCheck
-use Rattle.defs.specs.Table.{tableFits}
 use Rattle.extents.specs.Sheet.{sheetFits}
 use Rattle.readings.specs.Call.{budgetFits}
-use Rattle.readings.proofs.Calls.{bad-table, bad-line, bad-sheet, bad-budget}
-use Rattle.matcher.specs.declared.Answer.the-variants.{BadTable, BadLine, BadSheet, BadBudget}
-use Rattle.matcher.specs.declared.Checked.the-variants.{Good, Bad}
-use Rattle.matcher.specs.Told.{orderOf, CheckedAs, accepts, refuses}
+use Rattle.readings.proofs.Calls.{bad-line, bad-sheet, bad-budget}
+use Rattle.trials.specs.declared.Answer.the-variants.{BadLine, BadSheet, BadBudget}
+use Rattle.trials.specs.declared.Checked.the-variants.{Good, Bad}
+use Rattle.trials.specs.Told.{CheckedAs, accepts, refuses}
 
 -- ---- the line's fault
 
@@ -65,37 +64,32 @@ module _ (line : List ℕ) (found : LineCheck) (says : lineSays found ≡ lineVe
 
 -- ---- the checks, in their order
 
-module _ (t line sheet : List ℕ) (budget : ℕ) where
-  pub table-bad : tableFits t ≡ false → CheckedAs t line sheet budget (Bad BadTable)
-  table-bad e = refuses (λ how b. sym (bad-table (orderOf how) t line sheet budget b e))
+module _ (line sheet : List ℕ) (budget : ℕ) where
+  pub bytes-bad : (p : ℕ) → faultAt line ≡ some p → CheckedAs line sheet budget (Bad (BadLine p))
+  bytes-bad p e = refuses (λ t table rules b. sym (bad-line (λ s. rules) t line sheet budget b p table e))
 
-  module _ (table : tableFits t ≡ true) where
-    pub bytes-bad : (p : ℕ) → faultAt line ≡ some p → CheckedAs t line sheet budget (Bad (BadLine p))
-    bytes-bad p e = refuses (λ how b. sym (bad-line (orderOf how) t line sheet budget b p table e))
+  module _ (bytes : faultAt line ≡ none) where
+    pub extents-bad : sheetFits sheet (length line) ≡ false → CheckedAs line sheet budget (Bad BadSheet)
+    extents-bad e = refuses (λ t table rules b. sym (bad-sheet (λ s. rules) t line sheet budget b table bytes e))
 
-    module _ (bytes : faultAt line ≡ none) where
-      pub extents-bad : sheetFits sheet (length line) ≡ false → CheckedAs t line sheet budget (Bad BadSheet)
-      extents-bad e = refuses (λ how b. sym (bad-sheet (orderOf how) t line sheet budget b table bytes e))
+    module _ (extents : sheetFits sheet (length line) ≡ true) where
+      refused : budgetFits budget ≡ false → CheckedAs line sheet budget (Bad BadBudget)
+      refused e = refuses (λ t table rules b. sym (bad-budget (λ s. rules) t line sheet budget b table bytes extents e))
 
-      module _ (extents : sheetFits sheet (length line) ≡ true) where
-        refused : budgetFits budget ≡ false → CheckedAs t line sheet budget (Bad BadBudget)
-        refused e = refuses (λ how b. sym (bad-budget (orderOf how) t line sheet budget b table bytes extents e))
+      pub budget-none : budget ≡ 0 → CheckedAs line sheet budget (Bad BadBudget)
+      unfolding budgetFits
+      budget-none e = refused (and-false-left (leb 1 budget) (leb budget 1000000) (lt-leb 1 budget (omega arith)))
 
-        pub budget-none : budget ≡ 0 → CheckedAs t line sheet budget (Bad BadBudget)
-        unfolding budgetFits
-        budget-none e = refused (and-false-left (leb 1 budget) (leb budget 1000000) (lt-leb 1 budget (omega arith)))
+      pub budget-great : 1000000 < budget → CheckedAs line sheet budget (Bad BadBudget)
+      unfolding budgetFits
+      budget-great h = refused (and-false-right (leb 1 budget) (leb budget 1000000) (lt-leb budget 1000000 h))
 
-        pub budget-great : 1000000 < budget → CheckedAs t line sheet budget (Bad BadBudget)
-        unfolding budgetFits
-        budget-great h = refused (and-false-right (leb 1 budget) (leb budget 1000000) (lt-leb budget 1000000 h))
-
-        pub all-good : (budget ≡ 0 → ⊥) → budget ≤ 1000000 → CheckedAs t line sheet budget Good
-        unfolding budgetFits
-        all-good ne h =
-            accepts
-            (record {
-              table = table;
-              bytes = bytes;
-              extents = extents;
-              visits = and-both (leb 1 budget) (leb budget 1000000) (le-leb 1 budget (omega (arith, ne))) (le-leb budget 1000000 h);
-            })
+      pub all-good : (budget ≡ 0 → ⊥) → budget ≤ 1000000 → CheckedAs line sheet budget Good
+      unfolding budgetFits
+      all-good ne h =
+          accepts
+          (record {
+            bytes = bytes;
+            extents = extents;
+            visits = and-both (leb 1 budget) (leb budget 1000000) (le-leb 1 budget (omega (arith, ne))) (le-leb budget 1000000 h);
+          })

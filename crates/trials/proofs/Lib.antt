@@ -1,0 +1,5 @@
+pub mod Checks
+pub mod Choices
+pub mod Tries
+pub mod Telling
+pub mod Tight

@@ -1,0 +1,211 @@
+// A line on an accepted table whose rules are prepared: its checks, and the trial of the rules that scan or lookup chose.
+// From `src/asm/matcher/mod.rs`, `match_instr`. One call and a program of many lines share it. It refuses line, sheet and
+// budget (3, 4, 5); then the walk's budget, depth and pool (6, 7, 8); no match (1); an answer longer than the buffer (9).
+// A refusal leaves the buffer unchanged.
+use line::LineCheck;
+use places;
+use pool::Pool;
+use syntax::walker::Walker;
+use walk::Place;
+use walk::Refusal;
+use walk::Walked;
+ghost use mathlib.Core.Path.{_≡_};
+ghost use mathlib.Core.List.{[], map};
+ghost use Prim.Native.Nat.{_+_, _-_, _<_, _≤_};
+ghost use lib.ListN.{length, take};
+ghost use Rattle.readings.specs.Scene.{sceneOf};
+ghost use Rattle.readings.specs.Plan.{run};
+ghost use Rattle.readings.specs.Walk.{tries};
+ghost use Rattle.readings.specs.Call.{matched};
+ghost use Rattle.answer.specs.Measured.{treesIn};
+ghost use Rattle.trials.specs.Told.{says, CheckedAs, TryAsked, Tried, TellAsked, ReadAsked, stoppedBy, listedCall, triedPairs};
+
+const MOST_VISITS: u32 = 1_000_000;
+
+// What a call returns. The buffer's start holds the answer if it matched, and is unchanged otherwise.
+pub enum Answer {
+    // 0: the readings with the greatest exact count.
+    Matched { visits: u32, words: u32 },
+    // 1
+    NoMatch { visits: u32 },
+    // 2 to 5
+    BadTable,
+    BadLine { place: u32 },
+    BadSheet,
+    BadBudget,
+    // 6: the next visit would exceed the budget.
+    Spent { visits: u32 },
+    // 7: a nested step would enter depth 17.
+    TooDeep { visits: u32 },
+    // 8: a 4,097th record is due.
+    PoolFull { visits: u32 },
+    // 9: the answer is longer than the buffer.
+    TooLong { visits: u32, words: u32 },
+}
+
+// What the checks find.
+pub enum Checked {
+    Good,
+    Bad(Answer),
+}
+
+// The line's checks, in their order: 3, 4, 5.
+pub fn check(line: &[u8], sheet: &[u8], budget: u32) -> Checked
+    ensures answers { λ r. ⌜ CheckedAs (now (line .entry)) (now (sheet .entry)) budget r ⌝ }
+{
+    let found = line::check_line(line);
+    match found {
+        LineCheck::Good => {}
+        LineCheck::Bad { place } => {
+            return Checked::Bad(Answer::BadLine {
+                place: place as u32,
+            });
+        }
+    }
+    if !extents::check_sheet(sheet, line.len()) {
+        return Checked::Bad(Answer::BadSheet);
+    }
+    if budget == 0 {
+        return Checked::Bad(Answer::BadBudget);
+    }
+    if MOST_VISITS < budget {
+        return Checked::Bad(Answer::BadBudget);
+    }
+    Checked::Good
+}
+
+// The rule walk for each rule, on the whole line from its start: a top rule has depth 0 and must end at the line's end.
+fn try_rules(
+    table: &[u16],
+    line: &[u8],
+    sheet: &[u8],
+    starts: &[u16],
+    places: &[u16],
+    store: &mut [usize],
+    rules: &[u16],
+    count: usize,
+    visits: usize,
+) -> Walked
+    requires { ⌜ TryAsked (now table) (now line) (now sheet) (now starts) (now places) (now store) (now rules) count visits ⌝ }
+    ensures { λ r. ⌜ Tried (run (tries (sceneOf (now (table .entry)) (now (line .entry)) (now (sheet .entry))) (triedPairs (now (table .entry)) (now (rules .entry)) count)) visits 0) (now (store .exit)) r ⌝ }
+{
+    let mut left = visits;
+    let mut has = Pool::new();
+    let mut i = 0;
+    while i < count {
+        let at = places::WORDS * (rules[i] as usize);
+        i += 1;
+        let place = Place {
+            set: places[at] as usize,
+            rule: places[at + places::NUMBER] as usize,
+            at: places[at + places::FROM] as usize,
+            end: places[at + places::TO] as usize,
+            depth: 0,
+            args: 0,
+        };
+        let walker = Walker::new(line);
+        let got = walk::match_with_rule(
+            table,
+            line,
+            sheet,
+            starts,
+            store,
+            place,
+            walker,
+            left,
+            has,
+        );
+        match got {
+            Walked::Done(l, q) => {
+                left = l;
+                has = q;
+            }
+            Walked::Stopped(why, l) => {
+                return Walked::Stopped(why, l);
+            }
+        }
+    }
+    Walked::Done(left, has)
+}
+
+// The matches that the walk left, told: measured before anything is written.
+fn tell(
+    table: &[u16],
+    starts: &[u16],
+    store: &[usize],
+    used: usize,
+    visits: u32,
+    answer: &mut [u16],
+) -> Answer
+    requires { ⌜ TellAsked (now table) (now starts) (now store) used ⌝ }
+    ensures { λ r. ⌜ says r (now (answer .exit)) ≡ matched (sceneOf (now (table .entry)) [] []) visits (treesIn (now (store .entry)) used) (now (answer .entry)) ⌝ }
+{
+    let measure = answer::measure_answer(table, starts, store, used);
+    if measure.matches == 0 {
+        return Answer::NoMatch { visits };
+    }
+    let words = measure.words;
+    if answer.len() < words {
+        return Answer::TooLong {
+            visits,
+            words: words as u32,
+        };
+    }
+    answer::write_answer(table, starts, store, used, measure, answer);
+    Answer::Matched {
+        visits,
+        words: words as u32,
+    }
+}
+
+// A walk that stopped, told.
+fn stopped(why: Refusal, visits: u32) -> Answer
+    ensures { λ r. ⌜ r ≡ stoppedBy why visits ⌝ }
+{
+    match why {
+        Refusal::Spent => Answer::Spent { visits },
+        Refusal::Deep => Answer::TooDeep { visits },
+        Refusal::Full => Answer::PoolFull { visits },
+    }
+}
+
+// A line that its checks accepted, by the rules chosen for it.
+pub fn read_line(
+    table: &[u16],
+    line: &[u8],
+    sheet: &[u8],
+    budget: u32,
+    starts: &[u16],
+    places: &[u16],
+    rules: &[u16],
+    count: usize,
+    store: &mut [usize],
+    answer: &mut [u16],
+) -> Answer
+    requires { ⌜ ReadAsked (now table) (now line) (now sheet) (now starts) (now places) (now store) (now rules) count budget ⌝ }
+    ensures answers { λ r. ⌜ says r (now (answer .exit)) ≡ listedCall (triedPairs (now (table .entry)) (now (rules .entry)) count) (now (table .entry)) (now (line .entry)) (now (sheet .entry)) budget (now (answer .entry)) ⌝ }
+{
+    let visits = budget as usize;
+    let walked = try_rules(
+        table,
+        line,
+        sheet,
+        starts,
+        places,
+        store,
+        rules,
+        count,
+        visits,
+    );
+    match walked {
+        Walked::Stopped(why, left) => stopped(why, (visits - left) as u32),
+        Walked::Done(left, pool) => tell(
+            table,
+            starts,
+            store,
+            pool.used,
+            (visits - left) as u32,
+            answer,
+        ),
+    }
+}
