@@ -6,6 +6,7 @@ use defs::ruledef;
 use pool::Pool;
 use trials::Answer;
 use trials::Checked;
+use trials::Order;
 ghost use mathlib.Core.Path.{_≡_};
 ghost use mathlib.Core.Bool.{true};
 ghost use Prim.Native.Nat.{_≤_};
@@ -15,13 +16,7 @@ ghost use Rattle.readings.specs.Scene.{sceneOf};
 ghost use Rattle.readings.specs.Call.{Accepted, scanCall, lookupCall, callWith};
 ghost use Rattle.readings.specs.Demand.{Within, Demand3};
 ghost use Rattle.trials.specs.Told.{says};
-ghost use Rattle.matcher.specs.Orders.{orderOf, rulesOf};
-
-// Which rules a call tries, and in what order: all top rules, or those that the line's prefixes lead to.
-pub enum Order {
-    Scan,
-    Lookup,
-}
+ghost use Rattle.trials.specs.Orders.{orderOf, rulesOf};
 
 // The rules that a call tries, by their places in the table, at the buffer's start.
 fn rules_to_try(table: &[u16], line: &[u8], order: Order, rules: &mut [u16]) -> usize

@@ -49,6 +49,12 @@ pub enum Checked {
     Bad(Answer),
 }
 
+// Which rules a call tries, and in what order: all top rules, or those that the line's prefixes lead to.
+pub enum Order {
+    Scan,
+    Lookup,
+}
+
 // The line's checks, in their order: 3, 4, 5.
 pub fn check(line: &[u8], sheet: &[u8], budget: u32) -> Checked
     ensures answers { λ r. ⌜ CheckedAs (now (line .entry)) (now (sheet .entry)) budget r ⌝ }

@@ -5,7 +5,7 @@ use native.Mathlib.Omega.{arith}
 use Rattle.plain.proofs.Calls.{refused, passed}
 use Rattle.trials.proofs.Telling.{accepted-by}
 use Rattle.trials.proofs.Choices.{chosen-places}
-use Rattle.matcher.proofs.Promised.{table-refused, line-refused, chosen-by, line-told}
+use Rattle.trials.proofs.Ordered.{table-refused, line-refused, chosen-by, line-told}
 use borrow.Author.Needs.{needs}
 use Rattle.matcher.proofs.call.Statement.{statement}
 use Rattle.matcher.proofs.call.Tie as tie

@@ -1,5 +1,5 @@
 -- `matcher::rules_to_try` meets its contract.
-use Rattle.matcher.proofs.Promised.{listed-scan, listed-lookup}
+use Rattle.trials.proofs.Ordered.{listed-scan, listed-lookup}
 use borrow.Author.Needs.{needs}
 use Rattle.matcher.proofs.rules_to_try.Statement.{statement}
 use Rattle.matcher.proofs.rules_to_try.Tie as tie

@@ -5,8 +5,8 @@ use Rattle.ruledef_map.specs.RuledefMap.{linePrefix, topRules, foundRules}
 use Rattle.readings.specs.Scene.{Scene}
 use Rattle.readings.specs.Walk.{topPairs}
 use Rattle.readings.specs.Lookup.{foundPairs}
-use Rattle.matcher.specs.declared.Order.{Order}
-use Rattle.matcher.specs.declared.Order.the-variants.{Scan, Lookup}
+use Rattle.trials.specs.declared.Order.{Order}
+use Rattle.trials.specs.declared.Order.the-variants.{Scan, Lookup}
 
 -- as rulesets and numbers, and as records
 abbrev pub orderOf : Order → Scene → List (ℕ × ℕ)
