@@ -1,2 +1,4 @@
 pub mod Shapes
 pub mod Agreed
+pub mod Joined
+pub mod Programs

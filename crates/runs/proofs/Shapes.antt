@@ -10,7 +10,7 @@ use native.Mathlib.Decide.{decLe}
 use native.Mathlib.Omega.{arith}
 use lib.Dec.{eqb}
 use lib.ListN.{length, take, drop, length-append, length-drop}
-use lib.Seq.{drop-at}
+use lib.Seq.{take-at, drop-at}
 use borrow.Author.Tests.{ne-eqb}
 use Rattle.plain.specs.Choice.{select}
 use Rattle.plain.specs.Buffers.{atStart}
@@ -148,4 +148,20 @@ shape-room {call} (answering v ws e) a b not9 h = by (decLe (length ws) (length 
       where
         all-taken : {r : Told} → r ≡ record { number = 0; visits = v; words = length ws; place = 0; buffer = atStart ws a } → taken r ≡ length ws
         all-taken q = ap taken q
+    by (no k) = absurd (not9 (ap (λ (r : Told). r .number) (e a ∙ Calls.short (sceneOf [] [] []) v a ws (omega (arith, k)))))
+
+-- and the words that it takes are the same
+pub shape-words : {call : List ℕ → Told} → Shape call → (a b : List ℕ) → (call a .number ≡ 9 → ⊥) → taken (call a) ≤ length b
+    → take (taken (call a)) (call a .buffer) ≡ take (taken (call b)) (call b .buffer)
+unfolding taken
+shape-words {call} (refusing n v p ne _ e) a b not9 h =
+    ap (λ (r : Told). take (taken r) (r .buffer)) (e a) ∙ ap (λ (k : ℕ). take k a) (nothing-taken a n v p ne)
+    ∙ sym (ap (λ (r : Told). take (taken r) (r .buffer)) (e b) ∙ ap (λ (k : ℕ). take k b) (nothing-taken b n v p ne))
+shape-words {call} (answering v ws e) a b not9 h = by (decLe (length ws) (length a))
+  where
+    full-words : (c : List ℕ) → length ws ≤ length c → take (taken (call c)) (call c .buffer) ≡ ws
+    full-words c k = ap (λ (r : Told). take (taken r) (r .buffer)) (e c ∙ Calls.fits (sceneOf [] [] []) v c ws k) ∙ take-at ws (drop (length ws) c) (length ws) refl
+
+    by : Dec (length ws ≤ length a) → take (taken (call a)) (call a .buffer) ≡ take (taken (call b)) (call b .buffer)
+    by (yes k) = full-words a k ∙ sym (full-words b (subst (λ (n : ℕ). n ≤ length b) (ap taken (e a ∙ Calls.fits (sceneOf [] [] []) v a ws k)) h))
     by (no k) = absurd (not9 (ap (λ (r : Told). r .number) (e a ∙ Calls.short (sceneOf [] [] []) v a ws (omega (arith, k)))))
