@@ -10,9 +10,9 @@ use native.Mathlib.Omega.{arith}
 use lib.Dec.{leb, eqb}
 use lib.ListN.{length, getD, drop, drop-of-length-le}
 use lib.Seq.{drop-cons}
-use borrow.Author.Tests.{le-leb, lt-leb, eq-eqb, ne-eqb}
+use borrow.Author.Tests.{le-leb, lt-leb, leb-true, eq-eqb, ne-eqb, eqb-true}
 use Rattle.plain.specs.Choice.{select}
-use Rattle.plain.proofs.Tests.{not-both, and-off, and-on}
+use Rattle.plain.proofs.Tests.{not-both, and-left, and-right, and-off, and-on}
 use Rattle.lines.specs.Lines.{sheetSize, endsFit, sheetsSize, programFits, endsOf}
 use Rattle.lines.specs.declared.Ends.{Ends}
 use Rattle.lines.specs.declared.Ends.the-variants.{Good, Bad}
@@ -141,3 +141,25 @@ module _ (text : ℕ) (ends : List ℕ) (sheets budgets rows : ℕ) where
         rows-told same r =
             let (fit, is) = good-fit size (sym q ∙ e) in
             after-count (and-on fit (and-on (eq-eqb sheets (sheetsSize 0 ends) (right ∙ is)) (and-on (eq-eqb budgets (length ends) same) r)))
+
+-- what a program that fits has been lent
+pub record Fitting (text : ℕ) (ends : List ℕ) (sheets budgets rows : ℕ) : Type 0 where
+  pub few : length ends ≤ 256
+  pub fit : endsFit 0 ends text ≡ true
+  pub size : sheets ≡ sheetsSize 0 ends
+  pub one-each : budgets ≡ length ends
+  pub two-each : rows ≡ 2 * length ends
+
+pub fitting : (text : ℕ) (ends : List ℕ) (sheets budgets rows : ℕ) → programFits text ends sheets budgets rows ≡ true → Fitting text ends sheets budgets rows
+unfolding programFits
+fitting text ends sheets budgets rows e =
+    let a = and-right (leb (length ends) 256) _ e in
+    let b = and-right (endsFit 0 ends text) _ a in
+    let c = and-right (eqb sheets (sheetsSize 0 ends)) _ b in
+    record {
+      few = leb-true (length ends) 256 (and-left (leb (length ends) 256) _ e);
+      fit = and-left (endsFit 0 ends text) _ a;
+      size = eqb-true sheets (sheetsSize 0 ends) (and-left (eqb sheets (sheetsSize 0 ends)) _ b);
+      one-each = eqb-true budgets (length ends) (and-left (eqb budgets (length ends)) (eqb rows (2 * length ends)) c);
+      two-each = eqb-true rows (2 * length ends) (and-right (eqb budgets (length ends)) (eqb rows (2 * length ends)) c);
+    }

@@ -50,14 +50,14 @@ module _ (t text ends sheets budgets rows answers : List ℕ) (ok : tableFits t 
   unfolding programWith
   ran-whole order = rw (programWith, ok, fit)
 
-  pub scan-program-reads : ReadProgram t text ends sheets budgets rows answers (scanProgram t text ends sheets budgets rows answers)
+  pub scan-program-reads : ReadProgram t text ends sheets budgets answers (scanProgram t text ends sheets budgets rows answers)
   scan-program-reads = record {
     ran = runLines (lineCall topPairs t) (linesOf text ends sheets budgets) 0 answers;
     is = ran-whole topPairs;
     reads = lines-read t (lineCall topPairs t) (scan-reads t) (linesOf text ends sheets budgets) 0 answers;
   }
 
-  pub lookup-program-reads : ReadProgram t text ends sheets budgets rows answers (lookupProgram t text ends sheets budgets rows answers)
+  pub lookup-program-reads : ReadProgram t text ends sheets budgets answers (lookupProgram t text ends sheets budgets rows answers)
   lookup-program-reads = record {
     ran = runLines (lineCall prefixed t) (linesOf text ends sheets budgets) 0 answers;
     is = ran-whole prefixed;

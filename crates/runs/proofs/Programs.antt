@@ -5,10 +5,10 @@ use mathlib.Core.Bool.{Bool, true, false, _&&_}
 use mathlib.Core.List.{List, [], _∷_, _++_, map}
 use Prim.Native.Nat.{ℕ, zero, suc, _+_, _*_, _-_, _≤_}
 use native.Mathlib.Omega.{arith}
-use lib.Dec.{leb, eqb}
+use lib.Dec.{leb}
 use lib.ListN.{length, getD, take, drop, length-drop, take-append-drop}
 use lib.Seq.{slice, take-all, take-append-le, drop-append-le, take-append-add, drop-append-add}
-use borrow.Author.Tests.{leb-true, eqb-true}
+use borrow.Author.Tests.{leb-true}
 use Rattle.plain.specs.Told.{Told}
 use Rattle.plain.proofs.Tests.{and-left, and-right}
 use Rattle.defs.specs.Table.{tableFits}
@@ -17,7 +17,8 @@ use Rattle.readings.specs.Call.{callWith}
 use Rattle.lines.specs.Lines.{Line, sheetSize, linesFrom, linesOf, endsFit, sheetsSize, programFits}
 use Rattle.runs.specs.Program.{Ran, taken, lineThen, runLines, lineCall, ProgramTold, ranWhole, programWith}
 use Rattle.runs.specs.Joined.{movedRows, NoneTooLong, lastEnd}
-use Rattle.runs.proofs.Shapes.{Shape, call-shape, Kept, shape-keeps}
+use Rattle.lines.proofs.Measured.{fitting}
+use Rattle.runs.proofs.Shapes.{call-shape}
 use Rattle.runs.proofs.Joined.{lines-roomy}
 use Rattle.runs.proofs.Agreed.{ran-whole}
 
@@ -55,24 +56,6 @@ lines-behind pre text from (e ∷ es) sheets budgets =
     ∷ (ap (λ (n : ℕ). linesFrom (length pre + e) (pre ++ text) (map (λ e. length pre + e) es) (drop (sheetSize n) sheets) (drop 1 budgets)) same
     ∙ lines-behind pre text e es (drop (sheetSize (e - from)) sheets) (drop 1 budgets)) i
 
--- what a program that is not refused has been lent
-record Lent (text ends sheets budgets rows : List ℕ) : Type 0 where
-  fit : endsFit 0 ends (length text) ≡ true
-  size : length sheets ≡ sheetsSize 0 ends
-  one-each : length budgets ≡ length ends
-
-lent : (text ends sheets budgets rows : List ℕ) → programFits (length text) ends (length sheets) (length budgets) (length rows) ≡ true → Lent text ends sheets budgets rows
-unfolding programFits
-lent text ends sheets budgets rows e =
-    let a = and-right (leb (length ends) 256) _ e in
-    let b = and-right (endsFit 0 ends (length text)) _ a in
-    let c = and-right (eqb (length sheets) (sheetsSize 0 ends)) _ b in
-    record {
-      fit = and-left (endsFit 0 ends (length text)) _ a;
-      size = eqb-true (length sheets) (sheetsSize 0 ends) (and-left (eqb (length sheets) (sheetsSize 0 ends)) _ b);
-      one-each = eqb-true (length budgets) (length ends) (and-left (eqb (length budgets) (length ends)) (eqb (length rows) (2 * length ends)) c);
-    }
-
 module _ (text ends sheets budgets : List ℕ) (text′ ends′ sheets′ budgets′ : List ℕ) where
   -- the second text stands behind the first, which its last line ends
   abbrev pub joinedEnds : List ℕ
@@ -81,7 +64,7 @@ module _ (text ends sheets budgets : List ℕ) (text′ ends′ sheets′ budget
   pub joined-lines : (rows : List ℕ) → programFits (length text) ends (length sheets) (length budgets) (length rows) ≡ true → lastEnd 0 ends ≡ length text
       → linesOf (text ++ text′) joinedEnds (sheets ++ sheets′) (budgets ++ budgets′) ≡ linesOf text ends sheets budgets ++ linesOf text′ ends′ sheets′ budgets′
   joined-lines rows ok whole =
-      let l = lent text ends sheets budgets rows ok in
+      let l = fitting (length text) ends (length sheets) (length budgets) (length rows) ok in
       let from : lastEnd 0 ends ≡ length text + 0 = whole ∙ omega arith in
       lines-first text′ sheets′ budgets′ (map (λ e. length text + e) ends′) 0 text ends sheets budgets (l .fit) (l .size) (l .one-each)
       ∙ ap (λ (ls : List Line). linesOf text ends sheets budgets ++ ls)
@@ -143,7 +126,7 @@ module _ (order : Scene → List (ℕ × ℕ)) (t line sheet : List ℕ) (budget
       ≡ ranWhole (record { rows = single .number ∷ 0 ∷ []; words = taken single; answers = single .buffer })
   unfolding linesFrom runLines sheetsSize
   program-of-one ok fit =
-      let l = lent line (length line ∷ []) sheet (budget ∷ []) rows fit in
+      let l = fitting (length line) (length line ∷ []) (length sheet) 1 (length rows) fit in
       let size : sheetSize (length line - 0) ≡ length sheet = omega (arith, l .size) in
       let bytes : slice 0 (length line) line ≡ line = take-all (length line) line (omega arith) in
       let sheets : take (sheetSize (length line - 0)) sheet ≡ sheet = take-all (sheetSize (length line - 0)) sheet (omega arith) in

@@ -29,7 +29,7 @@ pub data ReadLines (t : List ℕ) : List Line → ℕ → List ℕ → Ran → T
       → ReadLines t xs (used + taken r) (drop (taken r) (r .buffer)) rest → ran ≡ lineThen r used rest → ReadLines t (x ∷ xs) used room ran
 
 -- of a program that is not refused
-pub record ReadProgram (t text ends sheets budgets rows answers : List ℕ) (told : ProgramTold) : Type 0 where
+pub record ReadProgram (t text ends sheets budgets answers : List ℕ) (told : ProgramTold) : Type 0 where
   pub ran : Ran
   pub is : told ≡ ranWhole ran
   pub reads : ReadLines t (linesOf text ends sheets budgets) 0 answers ran

@@ -39,7 +39,7 @@ case-of-says (TooDeep v) b = refl
 case-of-says (PoolFull v) b = refl
 case-of-says (TooLong v w) b = refl
 
-buffer-of : (a : Answer) (b : List ℕ) → says a b .buffer ≡ b
+pub buffer-of : (a : Answer) (b : List ℕ) → says a b .buffer ≡ b
 buffer-of (Matched v w) b = refl
 buffer-of (NoMatch v) b = refl
 buffer-of BadTable b = refl

@@ -1,0 +1,7 @@
+pub mod Keys
+pub mod Runs
+pub mod Bytes
+pub mod Entries
+pub mod Finding
+pub mod Order
+pub mod Tight

@@ -1,0 +1,174 @@
+// The top rules in order of prefix: each rule is one number, its prefix's bytes and then its place in the table, so that
+// the rules of a line's prefix of each length are a run, found by bisection. It stands for the Rust's hash map of
+// `src/asm/defs/ruledef_map.rs`. Nothing is refused: table and line are accepted ones.
+use defs::ruledef;
+use ruledef_map::Prefix;
+ghost use mathlib.Core.Path.{_≡_};
+ghost use mathlib.Core.Bool.{true};
+ghost use mathlib.Core.List.{map};
+ghost use Prim.Native.Nat.{_≤_, _<_};
+ghost use lib.Dec.{ltb};
+ghost use lib.ListN.{length, take};
+ghost use Rattle.plain.specs.Choice.{select};
+ghost use Rattle.plain.specs.Buffers.{putAfter};
+ghost use Rattle.defs.specs.Table.{partsBetween};
+ghost use Rattle.ruledef_map.specs.RuledefMap.{rulePrefix, linePrefix, foundRules};
+ghost use Rattle.sorting.specs.Ascending.{inOrder};
+ghost use Rattle.prefix_order.specs.PrefixOrder.{keyOf, entryOf, entries, rulesWith};
+ghost use Rattle.prefix_order.specs.PrefixOrder.{LayAsked, OrderAsked, FindAsked, FirstFrom, RunAsked};
+
+// A key's bytes, and what a byte weighs against the next.
+const BYTES: usize = 4;
+
+const BASE: usize = 256;
+
+// An entry is a key times this, and a place.
+const PLACES: usize = ruledef::MOST_RULES;
+
+// A part word below this is an exact part's byte.
+const EXACT: u16 = 256;
+
+// The prefix of the parts whose words stand from one place to before another, as a number.
+fn prefix_key(table: &[u16], from: usize, to: usize) -> usize
+    requires { ⌜ to ≤ length (now table) ⌝ }
+    ensures answers { λ r. ⌜ r ≡ keyOf (rulePrefix (partsBetween (now (table .entry)) from to)) ⌝ }
+    ensures small { λ r. ⌜ r < 4294967296 ⌝ }
+{
+    let mut key: usize = 0;
+    let mut left: usize = BYTES;
+    let mut at = from;
+    while 0 < left {
+        left -= 1;
+        key = key * BASE;
+        if at < to {
+            let word = table[at];
+            at += 1;
+            if word < EXACT {
+                key += token::to_ascii_lowercase(word as u8) as usize;
+            } else {
+                at = to;
+            }
+        }
+    }
+    key
+}
+
+// Lays each rule's entry, in the rules' order.
+fn lay_entries(table: &[u16], places: &[u16], rules: &[u16], count: usize, order: &mut [usize])
+    requires { ⌜ LayAsked (now table) (now places) (now rules) (now order) count ⌝ }
+    ensures { λ _. ⌜ take count (now (order .exit)) ≡ map (entryOf (now (table .entry))) (take count (now (rules .entry))) ⌝ }
+{
+    let mut i = 0;
+    while i < count {
+        let rule = rules[i] as usize;
+        let at = i;
+        i += 1;
+        let words = places::WORDS * rule;
+        let from = places[words + places::FROM] as usize;
+        let to = places[words + places::TO] as usize;
+        order[at] = prefix_key(table, from, to) * PLACES + rule;
+    }
+}
+
+// Writes the top rules' entries, in order of prefix.
+pub fn order_rules(
+    table: &[u16],
+    places: &[u16],
+    rules: &[u16],
+    count: usize,
+    order: &mut [usize],
+    spare: &mut [usize],
+)
+    requires { ⌜ OrderAsked (now table) (now places) (now rules) (now order) (now spare) count ⌝ }
+    ensures answers { λ _. ⌜ take count (now (order .exit)) ≡ entries (now (table .entry)) ⌝ }
+{
+    lay_entries(table, places, rules, count, order);
+    sorting::sort(&mut order[..count], spare);
+}
+
+// A byte of a prefix of this size, 0 past its end.
+fn byte_within(byte: u8, at: usize, size: usize) -> usize
+    ensures { λ r. ⌜ r ≡ select (ltb at size) byte 0 ⌝ }
+    ensures small { λ r. ⌜ r < 256 ⌝ }
+{
+    if at < size {
+        return byte as usize;
+    }
+    0
+}
+
+// The first bytes of a prefix, as a number.
+fn key_of(prefix: Prefix, size: usize) -> usize
+    ensures answers { λ r. ⌜ r ≡ keyOf (take size (prefix .bytes)) ⌝ }
+    ensures small { λ r. ⌜ r < 4294967296 ⌝ }
+{
+    let first = byte_within(prefix.bytes[0], 0, size);
+    let second = byte_within(prefix.bytes[1], 1, size);
+    let third = byte_within(prefix.bytes[2], 2, size);
+    let fourth = byte_within(prefix.bytes[3], 3, size);
+    ((first * BASE + second) * BASE + third) * BASE + fourth
+}
+
+// The place of the first entry that is not below a bound, or the end.
+fn first_from(order: &[usize], count: usize, bound: usize) -> usize
+    requires { ⌜ count ≤ length (now order) ⌝ }
+    requires { ⌜ inOrder (take count (now order)) ≡ true ⌝ }
+    ensures { λ r. ⌜ FirstFrom (take count (now (order .entry))) bound r ⌝ }
+{
+    let mut low = 0;
+    let mut high = count;
+    while low < high {
+        let middle = low + (high - low) / 2;
+        if order[middle] < bound {
+            low = middle + 1;
+        } else {
+            high = middle;
+        }
+    }
+    low
+}
+
+// Writes the rules whose prefix has this key after those written before: they are a run of the order.
+fn put_run(order: &[usize], count: usize, key: usize, rules: &mut [u16], from: usize) -> usize
+    requires { ⌜ count ≤ length (now order) ⌝ }
+    requires { ⌜ RunAsked (take count (now order)) (now rules) key from ⌝ }
+    ensures { λ r. ⌜ (now (rules .exit), r) ≡ putAfter from (rulesWith key (take count (now (order .entry)))) (now (rules .entry)) ⌝ }
+{
+    let mut at = first_from(order, count, key * PLACES);
+    let mut found = from;
+    while at < count {
+        let entry = order[at];
+        at += 1;
+        if entry / PLACES != key {
+            return found;
+        }
+        rules[found] = (entry % PLACES) as u16;
+        found += 1;
+    }
+    found
+}
+
+// Writes the rules to try on a line: those of its prefix's beginnings, the shortest first, within one in table order. No
+// table is read: its order says all that is needed.
+pub fn find_rules(
+    table: &[u16],
+    order: &[usize],
+    count: usize,
+    line: &[u8],
+    rules: &mut [u16],
+) -> usize
+    requires { ⌜ FindAsked (now table) (now order) (now line) (now rules) count ⌝ }
+    ensures answers { λ r. ⌜ take r (now (rules .exit)) ≡ foundRules (now (table .entry)) (linePrefix (now (line .entry))) ⌝ }
+    ensures many { λ r. ⌜ r ≡ length (foundRules (now (table .entry)) (linePrefix (now (line .entry)))) ⌝ }
+    ensures few { λ r. ⌜ r ≤ 512 ⌝ }
+{
+    let prefix = ruledef_map::parse_prefix(line);
+    let mut found: usize = 0;
+    let mut size: usize = 0;
+    while size <= prefix.count {
+        let key = key_of(prefix, size);
+        size += 1;
+        found = put_run(order, count, key, rules, found);
+    }
+    found
+}
