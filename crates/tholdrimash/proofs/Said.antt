@@ -7,7 +7,11 @@ use Rattle.readings.specs.Scene.{Scene}
 use Rattle.readings.specs.Demand.{Demand3}
 use Rattle.listing.specs.Calls.{ReadCall}
 use Rattle.tholdrimash.specs.declared.TholdrimashAnswer.{TholdrimashAnswer}
-use Rattle.tholdrimash.specs.Interface.{told}
+use Rattle.runs.specs.Program.{ProgramTold}
+use Rattle.runs.specs.Demand.{ReadProgram}
+use Rattle.program.specs.declared.ProgramAnswer.{ProgramAnswer}
+use Rattle.program.specs.Says.{programSays}
+use Rattle.tholdrimash.specs.Interface.{told, toldWhole}
 
 -- of any call's answers: the case's number and fields are the struct's
 pub fields-of : {A : Type 0} (says : A → List ℕ → Told) {answer a : A} {r s : TholdrimashAnswer} → answer ≡ a → r ≡ s → ((b : List ℕ) → told s b ≡ says a b)
@@ -27,3 +31,14 @@ tells-of e (h, k) = (ap (λ (x : Told). x .number) e ∙ h, ap (λ (x : Told). x
 -- what reading may tell, the struct's fields may tell
 pub call-of : (text room : List ℕ) {r q : Told} → r ≡ q → ReadCall text room q → ReadCall text room r
 call-of text room e c = subst (ReadCall text room) (sym e) c
+
+-- of a program call's answers
+module _ {answer a : ProgramAnswer} {r s : TholdrimashAnswer} where
+  pub whole-of : answer ≡ a → r ≡ s → ((rows b : List ℕ) → toldWhole s rows b ≡ programSays a rows b) → (rows b : List ℕ) → toldWhole r rows b ≡ programSays answer rows b
+  whole-of e q f rows b = ap (λ (x : TholdrimashAnswer). toldWhole x rows b) q ∙ f rows b ∙ sym (ap (λ (x : ProgramAnswer). programSays x rows b) e)
+
+pub program-reads-of : (t text ends sheets budgets answers : List ℕ) {r q : ProgramTold} → r ≡ q → ReadProgram t text ends sheets budgets answers q → ReadProgram t text ends sheets budgets answers r
+program-reads-of t text ends sheets budgets answers e d = subst (ReadProgram t text ends sheets budgets answers) (sym e) d
+
+pub program-tells-of : {r q : ProgramTold} {rows : List ℕ} {n : ℕ} → r ≡ q → (q .rows ≡ rows) × (q .told .words ≡ n) → (r .rows ≡ rows) × (r .told .words ≡ n)
+program-tells-of e (h, k) = (ap (λ (x : ProgramTold). x .rows) e ∙ h, ap (λ (x : ProgramTold). x .told .words) e ∙ k)

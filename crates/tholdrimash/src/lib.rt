@@ -1,24 +1,31 @@
 // The C interface: `include/tholdrimash.h` declares these functions, and documents every number and field. Each is one call
-// of `matcher`, `resolver` or `listing`, with the answer's number and fields as a C struct; a slice is a pointer and a
-// length.
+// of `matcher`, `resolver`, `listing` or `program`, with the answer's number and fields as a C struct; a slice is a pointer
+// and a length.
 use listing::reading::ReadAnswer;
 use listing::writing::WriteAnswer;
+use program::ProgramAnswer;
 use resolver::instruction::Selection;
 use trials::Answer;
 ghost use mathlib.Core.Path.{_≡_};
-ghost use mathlib.Core.Bool.{not};
+ghost use mathlib.Core.Bool.{not, true};
 ghost use mathlib.Core.List.{List};
 ghost use Prim.Native.Nat.{ℕ, _≤_};
 ghost use lib.Dec.{eqb};
+ghost use lib.ListN.{length};
+ghost use Rattle.defs.specs.Table.{tableFits};
 ghost use Rattle.readings.specs.Call.{Accepted, scanCall, lookupCall};
 ghost use Rattle.readings.specs.Demand.{Within, Demand3};
 ghost use Rattle.readings.specs.Scene.{sceneOf};
 ghost use Rattle.trials.specs.Told.{says};
-ghost use Rattle.tholdrimash.specs.Interface.{told, chose, ChosenOnLast};
+ghost use Rattle.lines.specs.Lines.{linesOf, programFits};
+ghost use Rattle.runs.specs.Program.{scanProgram, lookupProgram};
+ghost use Rattle.runs.specs.Demand.{ReadProgram, AllWithin};
+ghost use Rattle.program.specs.Says.{programSays};
+ghost use Rattle.tholdrimash.specs.Interface.{told, toldWhole, chose, ChosenOnLast};
 ghost use Rattle.resolver.specs.Selection.{selected, selectionSays};
 ghost use Rattle.listing.specs.Calls.{ReadCall, writeCall, readSays, writeSays};
 
-// What matching, reading and writing return; unstated fields are 0.
+// What matching, reading and writing tables, and programs return; unstated fields are 0.
 #[repr(C)]
 pub struct TholdrimashAnswer {
     pub number: u32,
@@ -170,4 +177,50 @@ pub extern "C" fn tholdrimash_write_table(table: &[u16], text: &mut [u8]) -> Tho
     ensures answers { λ r. ⌜ told r (now (text .exit)) ≡ writeCall (now (table .entry)) (now (text .entry)) ⌝ }
 {
     write_fields(listing::writing::write_table(table, text))
+}
+
+// Each case of a program call as its number and fields.
+fn program_fields(answer: ProgramAnswer) -> TholdrimashAnswer
+    ensures { λ r. ⌜ ((rows b : List ℕ) → toldWhole r rows b ≡ programSays answer rows b) ⌝ }
+{
+    match answer {
+        ProgramAnswer::Done { words } => answer_of(0, 0, words, 0),
+        ProgramAnswer::BadTable => answer_of(2, 0, 0, 0),
+        ProgramAnswer::BadProgram => answer_of(17, 0, 0, 0),
+    }
+}
+
+// A whole program by full scan.
+#[no_mangle]
+pub extern "C" fn tholdrimash_match_program(
+    table: &[u16],
+    text: &[u8],
+    ends: &[u32],
+    sheets: &[u8],
+    budgets: &[u32],
+    rows: &mut [u32],
+    answers: &mut [u16],
+) -> TholdrimashAnswer
+    ensures answers { λ r. ⌜ toldWhole r (now (rows .exit)) (now (answers .exit)) ≡ scanProgram (now (table .entry)) (now (text .entry)) (now (ends .entry)) (now (sheets .entry)) (now (budgets .entry)) (now (rows .entry)) (now (answers .entry)) ⌝ }
+    ensures readings { λ r. ⌜ (tableFits (now (table .entry)) ≡ true → programFits (length (now (text .entry))) (now (ends .entry)) (length (now (sheets .entry))) (length (now (budgets .entry))) (length (now (rows .entry))) ≡ true → ReadProgram (now (table .entry)) (now (text .entry)) (now (ends .entry)) (now (sheets .entry)) (now (budgets .entry)) (now (answers .entry)) (toldWhole r (now (rows .exit)) (now (answers .exit)))) ⌝ }
+{
+    program_fields(program::match_program(table, text, ends, sheets, budgets, rows, answers))
+}
+
+// A whole program by prefix lookup.
+#[no_mangle]
+pub extern "C" fn tholdrimash_lookup_program(
+    table: &[u16],
+    text: &[u8],
+    ends: &[u32],
+    sheets: &[u8],
+    budgets: &[u32],
+    rows: &mut [u32],
+    answers: &mut [u16],
+) -> TholdrimashAnswer
+    ensures answers { λ r. ⌜ toldWhole r (now (rows .exit)) (now (answers .exit)) ≡ lookupProgram (now (table .entry)) (now (text .entry)) (now (ends .entry)) (now (sheets .entry)) (now (budgets .entry)) (now (rows .entry)) (now (answers .entry)) ⌝ }
+    ensures readings { λ r. ⌜ (tableFits (now (table .entry)) ≡ true → programFits (length (now (text .entry))) (now (ends .entry)) (length (now (sheets .entry))) (length (now (budgets .entry))) (length (now (rows .entry))) ≡ true → ReadProgram (now (table .entry)) (now (text .entry)) (now (ends .entry)) (now (sheets .entry)) (now (budgets .entry)) (now (answers .entry)) (toldWhole r (now (rows .exit)) (now (answers .exit)))) ⌝ }
+    ensures agrees { λ r. ⌜ (AllWithin (now (table .entry)) (linesOf (now (text .entry)) (now (ends .entry)) (now (sheets .entry)) (now (budgets .entry))) → (now (rows .exit) ≡ scanProgram (now (table .entry)) (now (text .entry)) (now (ends .entry)) (now (sheets .entry)) (now (budgets .entry)) (now (rows .entry)) (now (answers .entry)) .rows) × (r .words ≡ scanProgram (now (table .entry)) (now (text .entry)) (now (ends .entry)) (now (sheets .entry)) (now (budgets .entry)) (now (rows .entry)) (now (answers .entry)) .told .words)) ⌝ }
+{
+    program_fields(program::lookup_program(table, text, ends, sheets, budgets, rows, answers))
 }
