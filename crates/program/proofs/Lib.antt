@@ -2,3 +2,4 @@ pub mod Rows
 pub mod Choosing
 pub mod Preparing
 pub mod Running
+pub mod Tight

@@ -1,5 +1,5 @@
 -- The table prepared for all lines: every top rule is listed, so every top rule has its place; for lookup they are put in prefix
--- order besides. And the whole program from its steps.
+-- order besides. And what the contracts say of demand 3.
 use mathlib.Core.Path.{_≡_, refl, sym, ap, subst, _∙_}
 use mathlib.Core.Bool.{true, false}
 use mathlib.Core.Logic.{inl, inr}
@@ -14,13 +14,12 @@ use Rattle.ruledef_map.specs.RuledefMap.{topRules}
 use Rattle.lines.specs.Lines.{linesOf, programFits}
 use Rattle.places.specs.Places.{PlacedAt, Placed, PlaceAsked}
 use Rattle.prefix_order.specs.PrefixOrder.{entries, OrderAsked}
-use Rattle.runs.specs.Program.{Ran, runLines, lineCall, ProgramTold, refusedWhole, ranWhole, programWith, scanProgram, lookupProgram}
+use Rattle.runs.specs.Program.{ProgramTold, scanProgram, lookupProgram}
 use Rattle.runs.specs.Demand.{ReadProgram, AllWithin}
-use Rattle.runs.proofs.Agreed.{ran-whole, scan-program-reads, lookup-program-reads, programs-agree}
+use Rattle.runs.proofs.Agreed.{scan-program-reads, lookup-program-reads, programs-agree}
 use Rattle.trials.specs.declared.Order.{Order}
 use Rattle.trials.specs.declared.Order.the-variants.{Scan}
 use Rattle.trials.specs.Told.{all-tops}
-use Rattle.trials.specs.Orders.{orderOf}
 use Rattle.trials.proofs.Choices.{chosen-places}
 use Rattle.program.specs.Prepared.{Prepared, Ready}
 use Rattle.program.proofs.Choosing.{orders-apart}
@@ -65,22 +64,6 @@ module _ (t starts rules : List ℕ) (n : ℕ) (ok : tableFits t ≡ true) (begi
         prepared = prepared;
         ordered = record { room = long; long = room; few = few; listed = λ _. tops; sorted = λ _. e };
       }
-
--- ---- the whole program
-
-module _ (how : Order) (t text ends sheets budgets rows answers : List ℕ) where
-  pub bad-table : tableFits t ≡ false → refusedWhole 2 rows answers ≡ programWith (orderOf how) t text ends sheets budgets rows answers
-  unfolding programWith
-  bad-table e = sym (rw (programWith, e))
-
-  module _ (ok : tableFits t ≡ true) where
-    pub bad-program : programFits (length text) ends (length sheets) (length budgets) (length rows) ≡ false → refusedWhole 17 rows answers ≡ programWith (orderOf how) t text ends sheets budgets rows answers
-    unfolding programWith
-    bad-program e = sym (rw (programWith, ok, e))
-
-    pub program-told : programFits (length text) ends (length sheets) (length budgets) (length rows) ≡ true
-        → {ran : Ran} → ran ≡ runLines (lineCall (orderOf how) t) (linesOf text ends sheets budgets) 0 answers → ranWhole ran ≡ programWith (orderOf how) t text ends sheets budgets rows answers
-    program-told fit e = ap ranWhole e ∙ sym (ran-whole t text ends sheets budgets rows answers ok fit (orderOf how))
 
 -- ---- demand 3, and lookup beside the scan, in the contracts
 

@@ -23,6 +23,7 @@ use Rattle.readings.proofs.Theorems.{scan-demand, lookup-demand, lookup-agrees}
 use Rattle.lines.specs.Lines.{Line, linesOf, programFits}
 use Rattle.runs.specs.Program.{Ran, taken, lineThen, runLines, lineCall, ProgramTold, refusedWhole, ranWhole, programWith, scanProgram, lookupProgram}
 use Rattle.runs.specs.Demand.{LineWithin, LineReads, ReadLines, none, more, ReadProgram, AllWithin}
+use Rattle.runs.proofs.Wholes.{ran-whole}
 use Rattle.runs.proofs.Shapes.{Kept, shape-keeps, shape-same, same-taken, call-shape}
 
 -- the rules that a lookup tries
@@ -46,21 +47,17 @@ lookup-reads t x room ok w = lookup-demand t (x .bytes) (x .sheet) (x .budget) r
 
 module _ (t text ends sheets budgets rows answers : List ℕ) (ok : tableFits t ≡ true)
     (fit : programFits (length text) ends (length sheets) (length budgets) (length rows) ≡ true) where
-  pub ran-whole : (order : Scene → List (ℕ × ℕ)) → programWith order t text ends sheets budgets rows answers ≡ ranWhole (runLines (lineCall order t) (linesOf text ends sheets budgets) 0 answers)
-  unfolding programWith
-  ran-whole order = rw (programWith, ok, fit)
-
   pub scan-program-reads : ReadProgram t text ends sheets budgets answers (scanProgram t text ends sheets budgets rows answers)
   scan-program-reads = record {
     ran = runLines (lineCall topPairs t) (linesOf text ends sheets budgets) 0 answers;
-    is = ran-whole topPairs;
+    is = ran-whole topPairs t text ends sheets budgets rows answers ok fit;
     reads = lines-read t (lineCall topPairs t) (scan-reads t) (linesOf text ends sheets budgets) 0 answers;
   }
 
   pub lookup-program-reads : ReadProgram t text ends sheets budgets answers (lookupProgram t text ends sheets budgets rows answers)
   lookup-program-reads = record {
     ran = runLines (lineCall prefixed t) (linesOf text ends sheets budgets) 0 answers;
-    is = ran-whole prefixed;
+    is = ran-whole prefixed t text ends sheets budgets rows answers ok fit;
     reads = lines-read t (lineCall prefixed t) (lookup-reads t) (linesOf text ends sheets budgets) 0 answers;
   }
 

@@ -1,3 +1,4 @@
+pub mod Wholes
 pub mod Shapes
 pub mod Agreed
 pub mod Joined

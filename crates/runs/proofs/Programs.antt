@@ -20,7 +20,7 @@ use Rattle.runs.specs.Joined.{movedRows, NoneTooLong, lastEnd}
 use Rattle.lines.proofs.Measured.{fitting}
 use Rattle.runs.proofs.Shapes.{call-shape}
 use Rattle.runs.proofs.Joined.{lines-roomy}
-use Rattle.runs.proofs.Agreed.{ran-whole}
+use Rattle.runs.proofs.Wholes.{ran-whole}
 
 -- a part behind a beginning
 slice-behind : (pre text : List ℕ) (from end : ℕ) → slice (length pre + from) (length pre + end) (pre ++ text) ≡ slice from end text
@@ -96,9 +96,9 @@ module _ (text ends sheets budgets : List ℕ) (text′ ends′ sheets′ budget
           answers = take (first .told .words) (first .told .buffer) ++ (take (second .told .words) (second .told .buffer) ++ drop (first .told .words + second .told .words) answers);
         })
     programs-joined ok fit fit′ fit″ whole none room =
-        let a = ran-whole t text ends sheets budgets rows answers ok fit order in
-        let b = ran-whole t text′ ends′ sheets′ budgets′ rows′ own ok fit′ order in
-        let c = ran-whole t (text ++ text′) joinedEnds (sheets ++ sheets′) (budgets ++ budgets′) rows″ answers ok fit″ order in
+        let a = ran-whole order t text ends sheets budgets rows answers ok fit in
+        let b = ran-whole order t text′ ends′ sheets′ budgets′ rows′ own ok fit′ in
+        let c = ran-whole order t (text ++ text′) joinedEnds (sheets ++ sheets′) (budgets ++ budgets′) rows″ answers ok fit″ in
         c
         ∙ ap (λ (ls : List Line). ranWhole (runLines (lineCall order t) ls 0 answers)) (joined-lines rows fit whole)
         ∙ ap ranWhole
@@ -130,7 +130,7 @@ module _ (order : Scene → List (ℕ × ℕ)) (t line sheet : List ℕ) (budget
       let size : sheetSize (length line - 0) ≡ length sheet = omega (arith, l .size) in
       let bytes : slice 0 (length line) line ≡ line = take-all (length line) line (omega arith) in
       let sheets : take (sheetSize (length line - 0)) sheet ≡ sheet = take-all (sheetSize (length line - 0)) sheet (omega arith) in
-      ran-whole t line (length line ∷ []) sheet (budget ∷ []) rows answers ok fit order
+      ran-whole order t line (length line ∷ []) sheet (budget ∷ []) rows answers ok fit
       ∙ ap (λ (x : Line). ranWhole (runLines (lineCall order t) (x ∷ []) 0 answers)) (λ i. record { bytes = bytes i; sheet = sheets i; budget = budget })
       ∙ λ i. ranWhole (record { rows = single .number ∷ 0 ∷ []; words = none-before i; answers = whole i })
     where

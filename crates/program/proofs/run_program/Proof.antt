@@ -2,7 +2,8 @@
 use native.Mathlib.Omega.{arith}
 use mathlib.Core.Path.{refl}
 use Rattle.plain.proofs.Calls.{refused, passed}
-use Rattle.program.proofs.Preparing.{bad-table, bad-program, program-told}
+use Rattle.trials.specs.Orders.{orderOf}
+use Rattle.runs.proofs.Wholes.{bad-table, bad-program, program-told}
 use borrow.Author.Needs.{needs}
 use Rattle.program.proofs.run_program.Statement.{statement}
 use Rattle.program.proofs.run_program.Tie as tie
@@ -20,7 +21,7 @@ check-table-requires c κs = search needs
 
 -- src/lib.rt:232:9
 returns : tie.Need-returns
-returns c = bad-table (c .before .before .before .before .before .before .before .before .before .args .how) _ _ _ _ _ _ _ (refused (c .before .check-table .ensures) (c .if1 .taken))
+returns c = bad-table (orderOf (c .before .before .before .before .before .before .before .before .before .args .how)) _ _ _ _ _ _ _ (refused (c .before .check-table .ensures) (c .if1 .taken))
 
 -- src/lib.rt:234:9
 check-program-requires : tie.Need-check-program-requires
@@ -28,7 +29,7 @@ check-program-requires c κs = search needs
 
 -- src/lib.rt:235:9
 returns-2 : tie.Need-returns-2
-returns-2 c = bad-program (c .before .before .before .before .before .before .before .before .before .before .before .args .how) _ _ _ _ _ _ _ (passed (c .before .before .before .check-table .ensures) (c .before .before .if1 .left)) (refused (c .before .check-program .ensures) (c .if2 .taken))
+returns-2 c = bad-program (orderOf (c .before .before .before .before .before .before .before .before .before .before .before .args .how)) _ _ _ _ _ _ _ (passed (c .before .before .before .check-table .ensures) (c .before .before .if1 .left)) (refused (c .before .check-program .ensures) (c .if2 .taken))
 
 -- src/lib.rt:237:18
 ruleset-starts-requires : tie.Need-ruleset-starts-requires
@@ -92,7 +93,7 @@ same-length-2 c = search needs
 
 -- src/lib.rt:219:1
 returns-3 : tie.Need-returns-3
-returns-3 c = program-told (c .before .before .before .before .before .before .before .before .before .before .before .before .before .before .before .before .before .before .before .before .before .before .before .before .before .before .before .before .before .before .before .before .before .before .args .how) _ _ _ _ _ _ _ (passed (c .before .before .before .before .before .before .before .before .before .before .before .before .before .before .before .before .before .before .before .before .before .before .before .before .before .before .check-table .ensures) (c .before .before .before .before .before .before .before .before .before .before .before .before .before .before .before .before .before .before .before .before .before .before .before .before .before .if1 .left)) (passed (c .before .before .before .before .before .before .before .before .before .before .before .before .before .before .before .before .before .before .before .before .before .before .before .before .check-program .ensures) (c .before .before .before .before .before .before .before .before .before .before .before .before .before .before .before .before .before .before .before .before .before .before .before .if2 .left)) (c .before .before .before .before .before .before .run-lines .ensures .0)
+returns-3 c = program-told (orderOf (c .before .before .before .before .before .before .before .before .before .before .before .before .before .before .before .before .before .before .before .before .before .before .before .before .before .before .before .before .before .before .before .before .before .before .args .how)) _ _ _ _ _ _ _ (passed (c .before .before .before .before .before .before .before .before .before .before .before .before .before .before .before .before .before .before .before .before .before .before .before .before .before .before .check-table .ensures) (c .before .before .before .before .before .before .before .before .before .before .before .before .before .before .before .before .before .before .before .before .before .before .before .before .before .if1 .left)) (passed (c .before .before .before .before .before .before .before .before .before .before .before .before .before .before .before .before .before .before .before .before .before .before .before .before .check-program .ensures) (c .before .before .before .before .before .before .before .before .before .before .before .before .before .before .before .before .before .before .before .before .before .before .before .if2 .left)) (c .before .before .before .before .before .before .run-lines .ensures .0)
 
 pub run-program-spec : {M : Type 1} → statement M
 run-program-spec =
