@@ -1,5 +1,5 @@
 pub mod Wholes
 pub mod Shapes
-pub mod Agreed
 pub mod Joined
+pub mod Agreed
 pub mod Programs

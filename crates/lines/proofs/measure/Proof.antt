@@ -39,11 +39,11 @@ add-i c = omega (arith, c .before .loop-test .taken)
 
 -- src/lib.rt:42:13
 returns : tie.Need-returns Inv-loop μ-loop
-returns c = ends-fall (c .before .before .before .loop .inv) (c .before .before .loop-test .taken) _ refl (c .if1 .taken)
+returns c = ends-fall (c .before .before .before .loop .inv) (c .before .before .loop-test .taken) _ refl (omega (arith, c .if1 .taken))
 
 -- src/lib.rt:45:13
 returns-2 : tie.Need-returns-2 Inv-loop μ-loop
-returns-2 c = ends-pass (c .before .before .before .before .loop .inv) (c .before .before .before .loop-test .taken) _ refl (c .before .if1 .left) (c .if2 .taken)
+returns-2 c = ends-pass (c .before .before .before .before .loop .inv) (c .before .before .before .loop-test .taken) _ refl (omega (arith, c .before .if1 .left)) (omega (arith, c .if2 .taken))
 
 -- src/lib.rt:47:19
 sheet-size-requires : tie.Need-sheet-size-requires Inv-loop μ-loop
@@ -59,7 +59,7 @@ loop-less c = omega (arith, c .before .before .before .before .loop-test .taken)
 
 -- src/lib.rt:38:5
 loop-again : tie.Need-loop-again Inv-loop μ-loop
-loop-again c = passed-more (c .before .before .before .before .before .loop .inv) (c .before .before .before .before .loop-test .taken) _ refl (c .before .before .if1 .left) (c .before .if2 .left) _ (c .sheet-size .ensures .0) (c .sheet-size .ensures .1)
+loop-again c = passed-more (c .before .before .before .before .before .loop .inv) (c .before .before .before .before .loop-test .taken) _ refl (omega (arith, c .before .before .if1 .left)) (omega (arith, c .before .if2 .left)) _ (c .sheet-size .ensures .0) (c .sheet-size .ensures .1)
 
 -- src/lib.rt:31:1
 returns-3 : tie.Need-returns-3 Inv-loop μ-loop

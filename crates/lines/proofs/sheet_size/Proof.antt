@@ -9,7 +9,7 @@ use Rattle.lines.proofs.sheet_size.Lts as lts
 
 -- src/lib.rt:25:9
 returns : tie.Need-returns
-returns c = (size-none _ (c .if1 .taken), omega arith)
+returns c = (size-none (c .before .args .n) (omega (arith, c .if1 .taken)), omega arith)
 
 -- src/lib.rt:27:11
 add-result : tie.Need-add-result
@@ -21,15 +21,15 @@ add-result-2 c = search needs
 
 -- src/lib.rt:27:10
 mul-result : tie.Need-mul-result
-mul-result c = omega (arith, size-fits _ (c .if1 .left))
+mul-result c = omega (arith, size-fits (c .before .args .n) (omega (arith, c .if1 .left)))
 
 -- src/lib.rt:27:5
 mul-result-2 : tie.Need-mul-result-2
-mul-result-2 c = omega (arith, size-fits _ (c .if1 .left))
+mul-result-2 c = omega (arith, size-fits (c .before .args .n) (omega (arith, c .if1 .left)))
 
 -- src/lib.rt:20:1
 returns-2 : tie.Need-returns-2
-returns-2 c = (size-is _ (c .if1 .left), omega (arith, size-fits _ (c .if1 .left)))
+returns-2 c = (size-is (c .before .args .n) (omega (arith, c .if1 .left)), omega (arith, size-fits (c .before .args .n) (omega (arith, c .if1 .left))))
 
 pub sheet-size-spec : {M : Type 1} → statement M
 sheet-size-spec =

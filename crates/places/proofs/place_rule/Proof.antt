@@ -59,7 +59,7 @@ slice-write-places-2 c = search (needs, word-within (c .before .before .before .
 
 -- src/lib.rt:38:25
 cast-places-2 : tie.Need-cast-places-2
-cast-places-2 c = omega (arith, small _ _ (c .before .before .before .before .before .before .before .pre .0) (c .before .before .before .before .before .before .before .pre .1 .0) _ (c .before .before .before .before .before .before .before .pre .1 .1 .0) _ (c .before .before .before .ruleset-of .ensures) _ (c .before .before .parts-of .ensures) .from)
+cast-places-2 c = omega (arith, small _ _ (c .before .before .before .before .before .before .before .pre .0) (c .before .before .before .before .before .before .before .pre .1 .0) _ (c .before .before .before .before .before .before .before .pre .1 .1 .0) _ (c .before .before .before .ruleset-of .ensures) _ (c .before .before .parts-of .ensures) .from, small _ _ (c .before .before .before .before .before .before .before .pre .0) (c .before .before .before .before .before .before .before .pre .1 .0) _ (c .before .before .before .before .before .before .before .pre .1 .1 .0) _ (c .before .before .before .ruleset-of .ensures) _ (c .before .before .parts-of .ensures) .to)
 
 -- src/lib.rt:38:12
 add-places-2 : tie.Need-add-places-2
@@ -75,7 +75,7 @@ slice-write-places-3 c = search (needs, word-within (c .before .before .before .
 
 -- src/lib.rt:39:23
 cast-places-3 : tie.Need-cast-places-3
-cast-places-3 c = omega (arith, small _ _ (c .before .before .before .before .before .before .before .before .pre .0) (c .before .before .before .before .before .before .before .before .pre .1 .0) _ (c .before .before .before .before .before .before .before .before .pre .1 .1 .0) _ (c .before .before .before .before .ruleset-of .ensures) _ (c .before .before .before .parts-of .ensures) .to)
+cast-places-3 c = omega (arith, small _ _ (c .before .before .before .before .before .before .before .before .pre .0) (c .before .before .before .before .before .before .before .before .pre .1 .0) _ (c .before .before .before .before .before .before .before .before .pre .1 .1 .0) _ (c .before .before .before .before .ruleset-of .ensures) _ (c .before .before .before .parts-of .ensures) .from, small _ _ (c .before .before .before .before .before .before .before .before .pre .0) (c .before .before .before .before .before .before .before .before .pre .1 .0) _ (c .before .before .before .before .before .before .before .before .pre .1 .1 .0) _ (c .before .before .before .before .ruleset-of .ensures) _ (c .before .before .before .parts-of .ensures) .to)
 
 -- src/lib.rt:39:12
 add-places-3 : tie.Need-add-places-3

@@ -1,0 +1,10 @@
+-- `program::refused` meets its contract.
+use mathlib.Core.Path.{refl}
+use Rattle.program.proofs.refused.Statement.{statement}
+use Rattle.program.proofs.refused.Tie as tie
+
+returns : tie.Need-returns
+returns c = refl
+
+pub refused-spec : {M : Type 1} → statement M
+refused-spec = tie.close (tie.spec returns)
