@@ -1,5 +1,5 @@
-//! Inputs: tables, lines and sheets made from a seed, short ones exhaustively, programs of several lines, and damaged copies of
-//! good ones.
+//! Inputs: tables, lines and sheets made from a seed, short ones exhaustively, programs of several lines, and damaged copies
+//! of good ones.
 use crate::model::{Call, ProgramCall};
 use crate::random::Random;
 

@@ -1,6 +1,6 @@
 //! Compares the proved code with the Rust, in one process: walker moves and cuts, prefix queries, match calls by scan and by
-//! lookup, programs of many lines, and selection. What the Rust does not decide is held to a third reading of documents 01 and
-//! 02 (model.rs).
+//! lookup, programs of many lines, and selection. What the Rust does not decide is held to a third reading of documents 01
+//! and 02 (model.rs).
 //!
 //!     compare [--cases N] [--seed S] [--only walker|prefixes|matching|programs|selection] [--quick] [--record FOLDER]
 //!

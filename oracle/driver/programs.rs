@@ -1,5 +1,5 @@
-//! Compares programs: on every input with the model's rows and words, each line of number 0, 1 or 9 with what the Rust answers to
-//! that line alone, and lookup with the scan.
+//! Compares programs: on every input with the model's rows and words, each line of number 0, 1 or 9 with what the Rust answers
+//! to that line alone, and lookup with the scan.
 use crate::cases;
 use crate::matching::{number_name, with_rust};
 use crate::model::{self, Answer, ProgramAnswer, ProgramCall};
@@ -125,8 +125,8 @@ pub fn numbers(report: &mut Report) {
     }
 }
 
-/// Every list of at most three ends from 0 to 4 over three bytes, the text `aaa`, with as many sheets, budgets and rows as its
-/// lines have, and with one byte or word more and fewer of each. The table has the rules `a`, `a a` and one of no parts.
+/// Every list of at most three ends from 0 to 4 over the text `aaa`, with as many sheets, budgets and rows as its lines have,
+/// and with one byte or word more and fewer of each. The table has the rules `a`, `a a` and one of no parts.
 pub fn shapes(report: &mut Report) {
     let table = vec![1, 3, 3, 0, 0, 0, 1, 0, 1, 2, 0, 3, 0, 97, 97, 97];
     for ends in cases::all_up_to(&[0, 1, 2, 3, 4], 3) {
