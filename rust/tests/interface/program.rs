@@ -4,6 +4,7 @@
 use crate::lent::{Call, ProgramCall, ProgramTold};
 use crate::random::Random;
 use crate::tables::{chain, sheet, table, ALL, MOV, T};
+use std::thread;
 use tholdrimash::{sheet_len, Answer, LineAnswer, LineAnswers, ProgramAnswer, MOST_LINES};
 
 /// A line with its sheet and its budget. A line of more than 120 bytes has no sheet.
@@ -290,6 +291,24 @@ fn two_hundred_and_fifty_six_lines() {
     call.rows = 140_000;
     call.sheets = vec![255; 140_000];
     refused(&call);
+}
+
+/// The deepest match takes the most stack, also as a line of a program.
+#[test]
+fn deepest_line_in_a_small_stack() {
+    let deepest = || {
+        let line = Line {
+            bytes: vec![],
+            sheet: vec![0; 2],
+            budget: ALL,
+        };
+        let lines = [line.clone(), line];
+        program(&chain(b"???????", b'?'), &lines, 2 * 461).both()
+    };
+    let thread = thread::Builder::new().stack_size(256 * 1024);
+    let (told, rows, _) = thread.spawn(deepest).unwrap().join().unwrap();
+    assert_eq!(told, ProgramAnswer::Read { words: 2 * 461 });
+    assert_eq!(rows, [0, 0, 0, 461]);
 }
 
 #[test]
