@@ -900,6 +900,16 @@ static void bad_programs(void) {
         memcpy(p.ends, bad_ends[i].ends, sizeof bad_ends[i].ends);
         spoilt(bad_ends[i].name, &p);
     }
+    /* Ends that fall are bad whatever sheets there are: here none for the line that would end before it begins, or one
+     * as for an empty line. */
+    static const size_t fallen[] = {242 + 242, 242 + 2 + 242};
+    for (size_t i = 0; i < LEN(fallen); i++) {
+        p = good;
+        memcpy(p.ends, bad_ends[0].ends, sizeof bad_ends[0].ends);
+        memset(p.sheets, 255, sizeof p.sheets);
+        p.sheets_len = fallen[i];
+        spoilt("ends that fall, and sheets to them", &p);
+    }
     p = good;
     p.text_len--;
     spoilt("a text one byte short", &p);

@@ -143,6 +143,14 @@ pub fn shapes(report: &mut Report) {
             ends,
         };
         both(report, &good);
+        // A line that would end before it begins is bad whatever sheet it has: above that of an empty line, here none.
+        let falls = |pair: &[u32]| pair[0] > pair[1];
+        let fallen = 2 * good.ends.windows(2).filter(|pair| falls(pair)).count();
+        if fallen > 0 {
+            let mut none = good.clone();
+            none.sheets.truncate(good.sheets.len() - fallen);
+            both(report, &none);
+        }
         for more in [false, true] {
             let resized = |length: usize| if more { length + 1 } else { length.saturating_sub(1) };
             let mut spoilt = [good.clone(), good.clone(), good.clone()];

@@ -323,6 +323,13 @@ fn bad_shapes_are_17() {
     spoil(&|call| call.ends = vec![5, 4, 15]); // ends that fall
     spoil(&|call| call.ends = vec![15, 10, 5]);
     spoil(&|call| call.ends = vec![5, 10, 9]);
+    for fallen in [0, 2] {
+        // Whatever sheets they have: none for the line that would end before it begins, or two bytes.
+        spoil(&|call| {
+            call.ends = vec![10, 5, 15];
+            call.sheets = vec![255; 242 + fallen + 242];
+        });
+    }
     spoil(&|call| call.ends = vec![5, 10, 16]); // past the text
     spoil(&|call| call.ends = vec![5, 10, u32::MAX]);
     spoil(&|call| call.ends = vec![5, 16, 15]);
