@@ -1,4 +1,5 @@
-//! The inputs: rule tables as a house would write them, by size and by kind, with a short and a long line for each.
+//! The inputs: rule tables as a house would write them, by size and by kind, with a short and a long line for each, and
+//! programs of many lines.
 
 use crate::notation::rule;
 
@@ -76,33 +77,44 @@ fn mnemonic(n: usize) -> String {
 
 const LONG_EXPRESSION: &str = "base+(width-2)*(scale+1)/4-offset+(left+right)*3+height*(top-bottom)-16+(a+b)*(c-d)";
 
+/// What a kind of table has: its rulesets, its two lines, how many names its rules begin with, and how a program's lines look,
+/// `NAME` being a name and `E` an expression.
+struct Kind {
+    rulesets: Vec<Vec<String>>,
+    lines: [String; 2],
+    names: usize,
+    shapes: &'static [&'static str],
+}
+
 /// Rules of their own name each: `abc {}`, `abd {}, {}` and so on.
-fn plain(rules: usize) -> (Vec<Vec<String>>, String, String) {
+fn plain(rules: usize) -> Kind {
     let shapes = ["", " {}", " {},{}", " #{}"];
     let of = |i: usize| mnemonic(i / shapes.len()) + shapes[i % shapes.len()];
     let named = mnemonic(rules / shapes.len() / 2);
-    (
-        vec![(0..rules).map(of).collect()],
-        format!("{named} x,42"),
-        format!("{named} {LONG_EXPRESSION},42"),
-    )
+    Kind {
+        rulesets: vec![(0..rules).map(of).collect()],
+        lines: [format!("{named} x,42"), format!("{named} {LONG_EXPRESSION},42")],
+        names: rules / shapes.len(),
+        shapes: &["NAME E", "NAME E,42", "NAME #E"],
+    }
 }
 
 /// Few names, many readings: every name has the same shapes, which overlap.
-fn overlapping(rules: usize) -> (Vec<Vec<String>>, String, String) {
+fn overlapping(rules: usize) -> Kind {
     let shapes = [" {}", " {},{}", " #{}", " ({})", " {}+{}", " {},({})", "b {}", "w {}"];
     let names = (rules / shapes.len()).clamp(1, 8);
     let of = |i: usize| mnemonic(i / shapes.len() % names) + shapes[i % shapes.len()];
     let named = mnemonic(names / 2);
-    (
-        vec![(0..rules).map(of).collect()],
-        format!("{named} x,(42)"),
-        format!("{named} {LONG_EXPRESSION},(42)"),
-    )
+    Kind {
+        rulesets: vec![(0..rules).map(of).collect()],
+        lines: [format!("{named} x,(42)"), format!("{named} {LONG_EXPRESSION},(42)")],
+        names,
+        shapes: &["NAME E,(42)", "NAME E", "NAMEb E", "NAME #E"],
+    }
 }
 
 /// Operands as rulesets, two deep: registers, and addresses that hold registers. Half of 8 rules are operands, 12 of more.
-fn nested(rules: usize) -> (Vec<Vec<String>>, String, String) {
+fn nested(rules: usize) -> Kind {
     let shapes = [" {1}", " {1},{1}", " {2}", " {1},{2}", " {2},{1}", " {}"];
     let of = |i: usize| mnemonic(i / shapes.len()) + shapes[i % shapes.len()];
     let operands = (rules / 2).min(12);
@@ -111,27 +123,27 @@ fn nested(rules: usize) -> (Vec<Vec<String>>, String, String) {
     let addresses = &["({1})", "({1}+{})", "({}+{1})", "[{}]", "#{}", "{1}"][..operands / 2];
     let texts = |list: &[&str]| list.iter().map(|t| t.to_string()).collect::<Vec<_>>();
     let named = mnemonic(top / shapes.len() / 2);
-    (
-        vec![(0..top).map(of).collect(), texts(registers), texts(addresses)],
-        format!("{named} q,(p+4)"),
-        format!("{named} q,(p+{LONG_EXPRESSION})"),
-    )
+    Kind {
+        rulesets: vec![(0..top).map(of).collect(), texts(registers), texts(addresses)],
+        lines: [format!("{named} q,(p+4)"), format!("{named} q,(p+{LONG_EXPRESSION})")],
+        names: (top / shapes.len()).max(1),
+        shapes: &["NAME q,(p+E)", "NAME (q+E)", "NAME p,(q+E)"],
+    }
 }
+
+const KINDS: [(&str, fn(usize) -> Kind); 3] = [("plain", plain), ("overlapping", overlapping), ("nested", nested)];
+const SIZES: [usize; 3] = [8, 64, 512];
 
 /// Every kind of table, of 8, 64 and 512 rules, with both lines.
 pub fn all() -> Vec<Case> {
     let mut cases = Vec::new();
-    for (kind, make) in [
-        ("plain", plain as fn(usize) -> (Vec<Vec<String>>, String, String)),
-        ("overlapping", overlapping),
-        ("nested", nested),
-    ] {
-        for rules in [8, 64, 512] {
-            let (rulesets, short, long) = make(rules);
-            for (length, line) in [("short", short), ("long", long)] {
+    for (kind, make) in KINDS {
+        for rules in SIZES {
+            let made = make(rules);
+            for (length, line) in ["short", "long"].into_iter().zip(made.lines) {
                 cases.push(Case {
                     name: format!("{kind} {rules} {length}"),
-                    table: pack(&rulesets),
+                    table: pack(&made.rulesets),
                     sheet: sheet(line.as_bytes()),
                     line: line.into_bytes(),
                 });
@@ -139,6 +151,69 @@ pub fn all() -> Vec<Case> {
         }
     }
     cases
+}
+
+/// A program over one table. Each line is a case, too.
+#[derive(Clone)]
+pub struct Program {
+    pub name: String,
+    pub table: Vec<u16>,
+    pub lines: Vec<Case>,
+    pub text: Vec<u8>,
+    pub ends: Vec<u32>,
+    pub sheets: Vec<u8>,
+}
+
+/// Every expression of a program's lines is a beginning of this.
+const EXPRESSION: &str = "base+width*scale-offset+left*right-16";
+
+const SHORTEST: usize = 8;
+const LONGEST: usize = 40;
+
+/// A program's line: names, shapes and lengths from 8 to 40 bytes go round, each in steps of its own.
+fn line(kind: &Kind, i: usize) -> String {
+    let name = mnemonic(i * 5 % kind.names);
+    let shape = kind.shapes[i % kind.shapes.len()].replace("NAME", &name);
+    let length = SHORTEST + i * 10 % (LONGEST - SHORTEST + 1);
+    let expression = (length + 1).saturating_sub(shape.len()).max(1);
+    shape.replace('E', &EXPRESSION[..expression])
+}
+
+/// Every table with a program of 16 lines and one of 256.
+pub fn programs() -> Vec<Program> {
+    let mut programs = Vec::new();
+    for (kind, make) in KINDS {
+        for rules in SIZES {
+            let made = make(rules);
+            let table = pack(&made.rulesets);
+            for count in [16, 256] {
+                let mut program = Program {
+                    name: format!("{kind} {rules}, {count} lines"),
+                    table: table.clone(),
+                    lines: Vec::new(),
+                    text: Vec::new(),
+                    ends: Vec::new(),
+                    sheets: Vec::new(),
+                };
+                for i in 0..count {
+                    let line = line(&made, i).into_bytes();
+                    assert!((SHORTEST..=LONGEST).contains(&line.len()));
+                    let case = Case {
+                        name: String::new(),
+                        table: table.clone(),
+                        sheet: sheet(&line),
+                        line,
+                    };
+                    program.text.extend(&case.line);
+                    program.ends.push(program.text.len() as u32);
+                    program.sheets.extend(&case.sheet);
+                    program.lines.push(case);
+                }
+                programs.push(program);
+            }
+        }
+    }
+    programs
 }
 
 /// Outcome words: sizes 8 to 64 in turn, some failed, some unknown, and one of least size.

@@ -1,11 +1,15 @@
 //! Times the proved library and the Rust text in one process on the same inputs (docs/PERFORMANCE.md says how).
 //!
-//!     bench                     times every case and prints the tables
+//!     bench                     times every case and every program and prints the tables
 //!     bench --list              prints the cases' names
 //!     bench --once NAME SIDE    runs one case once on one side, for a count of instructions: `proved`, `checks` or `rust`
+//!     bench --programs          prints the programs' names, each after the number of its lines
+//!     bench --program NAME SIDE the same of one program: `call`, `table`, `checks`, `singles`, `rust` or `from_table`
+//!                               (programs.rs says what each is)
 mod cases;
 #[path = "../oracle/driver/notation.rs"]
 mod notation;
+mod programs;
 // The crate in rust/ has a layout of its own, and functions that are not timed.
 #[path = "../rust/src/raw.rs"]
 #[rustfmt::skip]
@@ -77,7 +81,7 @@ fn calls_for(f: &mut dyn FnMut()) -> u32 {
 
 /// Lowers each side's least time, sampled in turn so that a disturbance meets all alike. The first samples, which find out how
 /// many calls a sample has, also warm caches and the branch predictor, and are not counted.
-fn lower<const N: usize>(least: &mut [f64; N], mut sides: [&mut dyn FnMut(); N]) {
+pub fn lower<const N: usize>(least: &mut [f64; N], mut sides: [&mut dyn FnMut(); N]) {
     let calls = sides.each_mut().map(|f| calls_for(*f));
     for _ in 0..SAMPLES {
         for (i, f) in sides.iter_mut().enumerate() {
@@ -166,10 +170,14 @@ fn time_all() {
     let both = |case: Case| [false, true].map(|lookup| (case.clone(), lookup, [f64::INFINITY; 4]));
     let mut rows: Vec<_> = cases::all().into_iter().flat_map(both).collect();
     let mut selections = [1, 2, 4, 16, 64, 256, 1024, 4096].map(|count| (count, [f64::INFINITY; 2]));
+    let mut programs = programs::rows();
     for (case, lookup, _) in &rows {
         agree(case, *lookup, &oracle::unpack_table(&case.table));
     }
     for _ in 0..ROUNDS {
+        for row in &mut programs {
+            row.time();
+        }
         for (case, lookup, least) in &mut rows {
             time_case(case, *lookup, least);
         }
@@ -182,12 +190,21 @@ fn time_all() {
     for (count, [own, rust]) in selections {
         println!("| {count} | {own:.0} | {rust:.0} | {:.1} |", rust / own);
     }
+    println!("\nPrograms, nanoseconds a line.\n");
+    programs::print(&programs);
+}
+
+/// The name without its way, and whether that is lookup.
+fn way(name: &str) -> (&str, bool) {
+    match name.strip_suffix(" lookup") {
+        Some(name) => (name, true),
+        None => (name.trim_end_matches(" scan"), false),
+    }
 }
 
 /// Runs a case twice on one side; the second run is the one that is counted.
 fn once(name: &str, side: &str) {
-    let lookup = name.ends_with(" lookup");
-    let name = name.trim_end_matches(" lookup").trim_end_matches(" scan");
+    let (name, lookup) = way(name);
     let case = cases::all().into_iter().find(|c| c.name == name).expect("no such case");
     let defs = oracle::unpack_table(&case.table);
     let mut room = vec![0; ROOM];
@@ -225,8 +242,19 @@ fn main() {
             }
         }
         ["--once", name, side] => once(name, side),
+        ["--programs"] => {
+            for program in cases::programs() {
+                for way in ["scan", "lookup"] {
+                    println!("{} {} {way}", program.lines.len(), program.name);
+                }
+            }
+        }
+        ["--program", name, side] => {
+            let (name, lookup) = way(name);
+            programs::once(name, lookup, side);
+        }
         _ => {
-            eprintln!("usage: bench [--list | --once NAME SIDE]");
+            eprintln!("usage: bench [--list | --once NAME SIDE | --programs | --program NAME SIDE]");
             std::process::exit(2);
         }
     }

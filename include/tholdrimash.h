@@ -15,9 +15,9 @@
 #include <stdint.h>
 
 /* The version of this interface, and of the crate in rust/. */
-#define THOLDRIMASH_VERSION "0.2.0"
+#define THOLDRIMASH_VERSION "0.3.0"
 #define THOLDRIMASH_VERSION_MAJOR 0
-#define THOLDRIMASH_VERSION_MINOR 2
+#define THOLDRIMASH_VERSION_MINOR 3
 #define THOLDRIMASH_VERSION_PATCH 0
 
 #ifdef __cplusplus
@@ -25,11 +25,13 @@ extern "C" {
 #endif
 
 /* The numbers that the field `number` holds: of matching 0 to 9, of selection 0 and 10 to 14, of reading a table's text 0,
- * 15 and 16, of writing it 0, 2 and 16. Beside each stand the fields that it returns.
+ * 15 and 16, of writing it 0, 2 and 16, of a program 0, 2 and 17. Beside each stand the fields that it returns. A program's
+ * lines have numbers too, those of matching but for 2; they stand in its rows.
  *
  * Matching judges table, line, sheet and budget in that order (2, 3, 4, 5); then comes whichever of 6, 7 and 8 the walk
  * meets first; then 1; then 9. Selection judges 10, 11, 12, 13, 14 in that order. Reading judges the text (15), writing the
- * table (2), and then either the room for its result (16).
+ * table (2), and then either the room for its result (16). A program call judges the table (2), then the shape of what it is
+ * lent (17), and then each line as matching does.
  */
 enum {
     THOLDRIMASH_MATCHED = 0,        /* visits; words: how many were written at the answer's start, the rest is unchanged */
@@ -50,13 +52,16 @@ enum {
     THOLDRIMASH_TIED = 13,          /* two or more have the least size, on the last pass; count: how many */
     THOLDRIMASH_NO_ROOM = 14,       /* the choice is longer than its buffer; count: how many are chosen */
 
-    THOLDRIMASH_READ = 0,            /* words: how many were written at the start of `table`, the rest is unchanged */
-    THOLDRIMASH_WRITTEN = 0,         /* words: how many bytes were written at the start of `text`, the rest is unchanged */
-    THOLDRIMASH_BAD_TEXT = 15,       /* place: the first bad line, from 0; how many lines are ended if only the end is wrong */
-    THOLDRIMASH_RESULT_TOO_LONG = 16 /* the table's words, or the text's bytes, are more than the room lent for them */
+    THOLDRIMASH_READ = 0,             /* words: how many were written at the start of `table`, the rest is unchanged */
+    THOLDRIMASH_WRITTEN = 0,          /* words: how many bytes were written at the start of `text`, the rest is unchanged */
+    THOLDRIMASH_BAD_TEXT = 15,        /* place: the first bad line, from 0; how many are ended if only the end is wrong */
+    THOLDRIMASH_RESULT_TOO_LONG = 16, /* the table's words, or the text's bytes, are more than the room lent for them */
+
+    THOLDRIMASH_PROGRAM_READ = 0, /* every line has its row; words: how many were written at the start of `answers` in all */
+    THOLDRIMASH_BAD_PROGRAM = 17  /* more than 256 lines, bad ends, or sheets, budgets or rows of the wrong length */
 };
 
-/* What matching returns, and reading and writing a table's text, which make no visits.
+/* What matching returns; and what reading and writing a table's text and a program call return, where visits are 0.
  *
  * A visit is an arrival at a place in a rule's pattern: at each part that the walk comes to, and at the pattern's end. A
  * record is taken for each argument that the walk goes on with and for each match that it completes, and none is given back
@@ -104,6 +109,39 @@ tholdrimash_answer tholdrimash_match(const uint16_t *table, size_t table_len, co
 tholdrimash_answer tholdrimash_lookup(const uint16_t *table, size_t table_len, const uint8_t *line, size_t line_len,
                                       const uint8_t *sheet, size_t sheet_len, uint32_t budget, uint16_t *answer,
                                       size_t answer_len);
+
+/* The lines of a program, up to 256, matched in one call: the full scan. The table is judged once, so a line costs what is
+ * its own.
+ *
+ * table    as above.
+ * text     the lines' bytes, one line after another, with nothing between them.
+ * ends     where each line ends in `text`: it begins where the line before it ends, the first one at 0. Equal ends are an
+ *          empty line. What stands after the last end belongs to no line. There may be no line at all.
+ * sheets   each line's sheet, one after another: 2(n+1)^2 bytes for a line of n up to 120, and none for a longer one.
+ * budgets  a budget for each line.
+ * rows     two words for each line: its number, and how many answer words the lines before it have used.
+ * answers  the words of the lines that matched, one line's after another's.
+ *
+ * The number is 2 for a bad table; then 17 for more than 256 lines, an end below the one before it or past the text, or
+ * sheets, budgets or rows of any other length than that. Both come before any line, and nothing is written. Otherwise it is
+ * 0, whatever the lines' numbers are: every row is written, and `words` is how many answer words were used.
+ *
+ * Line i's number is rows[2i], and its words, if that is 0, begin at answers[rows[2i+1]] and end where the next line's
+ * begin, the last one's at `words`; the rest of `answers` is unchanged. Number and words are what matching gives for the
+ * line, its sheet and its budget, with the room left in `answers` as its buffer: 0, 1 or 3 to 9. A refused line takes no
+ * words and stops nothing, so that after a 9 a later, shorter answer may still fit. Visits, the words that a 9 needs and
+ * the place of a 3 are not told: match that line alone to have them.
+ */
+tholdrimash_answer tholdrimash_match_program(const uint16_t *table, size_t table_len, const uint8_t *text, size_t text_len,
+                                             const uint32_t *ends, size_t ends_len, const uint8_t *sheets,
+                                             size_t sheets_len, const uint32_t *budgets, size_t budgets_len,
+                                             uint32_t *rows, size_t rows_len, uint16_t *answers, size_t answers_len);
+
+/* The same by prefix lookup: each line's number and words are what tholdrimash_lookup gives for it. */
+tholdrimash_answer tholdrimash_lookup_program(const uint16_t *table, size_t table_len, const uint8_t *text, size_t text_len,
+                                              const uint32_t *ends, size_t ends_len, const uint8_t *sheets,
+                                              size_t sheets_len, const uint32_t *budgets, size_t budgets_len,
+                                              uint32_t *rows, size_t rows_len, uint16_t *answers, size_t answers_len);
 
 /* The outcomes of least known size, by index, ascending.
  *

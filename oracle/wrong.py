@@ -18,8 +18,9 @@ import tempfile
 HERE = pathlib.Path(__file__).resolve().parent
 BUILT = HERE.parent / "target" / "oracle"
 
-# What is compared apart from matching and selection.
+# What is compared of the ground floor, and of matching.
 GROUND = ["walker", "prefixes"]
+MATCHING = ["matching", "programs"]
 
 MATCHER = "asm/matcher/mod.rs"
 WALKER = "syntax/walker.rs"
@@ -149,7 +150,7 @@ def main():
 
     if not (BUILT / "compare").exists():
         sys.exit("wrong: run oracle/run first: it builds the program that compares")
-    if any(compare(BUILT, part, args) for part in GROUND + ["matching", "selection"]):
+    if any(compare(BUILT, part, args) for part in GROUND + MATCHING + ["selection"]):
         sys.exit("wrong: the proved code differs from the Rust itself")
 
     missed = 0
@@ -157,10 +158,10 @@ def main():
     for edit in edits:
         with tempfile.TemporaryDirectory() as folder:
             oracle = copy_with(args.text, edit, pathlib.Path(folder))
-            parts = ["selection"] if edit[1] == RESOLVER else ["matching"] + GROUND
+            parts = ["selection"] if edit[1] == RESOLVER else MATCHING + GROUND
             seen = [part for part in parts if compare(oracle, part, args)]
         missed += bool(seen) == (edit is REDUNDANT)
-        print(f"{'seen by ' + ' and '.join(seen) if seen else 'not seen':29} {edit[0]}", flush=True)
+        print(f"{'seen by ' + ' and '.join(seen) if seen else 'not seen':53} {edit[0]}", flush=True)
     print(f"{len(edits)} copies, {missed} judged wrongly")
     return 1 if missed else 0
 

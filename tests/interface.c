@@ -1,5 +1,5 @@
 /* Calls every function that include/tholdrimash.h declares: bench cases 1, 2, 10, 11 and 12 of document 01, each number
- * from 0 to 16 by its name, and the examples of docs/MANUAL.md in its order and notation. After a call it looks at all
+ * from 0 to 17 by its name, and the examples of docs/MANUAL.md in its order and notation. After a call it looks at all
  * that was lent and at what stands around it. It writes one line, and ends with 1 if a check failed.
  */
 #include "tholdrimash.h"
@@ -301,7 +301,7 @@ static void names(void) {
                                         THOLDRIMASH_TOO_LONG};
     static const uint32_t selection[] = {THOLDRIMASH_BAD_LIST, THOLDRIMASH_NONE_RESOLVED, THOLDRIMASH_NONE_KNOWN,
                                          THOLDRIMASH_TIED, THOLDRIMASH_NO_ROOM};
-    static const uint32_t text[] = {THOLDRIMASH_BAD_TEXT, THOLDRIMASH_RESULT_TOO_LONG};
+    static const uint32_t later[] = {THOLDRIMASH_BAD_TEXT, THOLDRIMASH_RESULT_TOO_LONG, THOLDRIMASH_BAD_PROGRAM};
     char version[16];
 
     for (uint32_t i = 0; i < LEN(matching); i++) check("names", "of matching", matching[i] == i);
@@ -309,7 +309,9 @@ static void names(void) {
     for (uint32_t i = 0; i < LEN(selection); i++) check("names", "of selection", selection[i] == LEN(matching) + i);
     check("names", "of a table read", THOLDRIMASH_READ == 0);
     check("names", "of a table written", THOLDRIMASH_WRITTEN == 0);
-    for (uint32_t i = 0; i < LEN(text); i++) check("names", "of text", text[i] == LEN(matching) + LEN(selection) + i);
+    check("names", "of a program read", THOLDRIMASH_PROGRAM_READ == 0);
+    for (uint32_t i = 0; i < LEN(later); i++)
+        check("names", "of text and programs", later[i] == LEN(matching) + LEN(selection) + i);
     snprintf(version, sizeof version, "%d.%d.%d", THOLDRIMASH_VERSION_MAJOR, THOLDRIMASH_VERSION_MINOR,
              THOLDRIMASH_VERSION_PATCH);
     check("names", "version", strcmp(version, THOLDRIMASH_VERSION) == 0);
@@ -690,6 +692,261 @@ static void unpacked(void) {
     gives("spare parts, packed and matched", tholdrimash_match, c, matched, whole);
 }
 
+typedef tholdrimash_answer programming(const uint16_t *table, size_t table_len, const uint8_t *text, size_t text_len,
+                                       const uint32_t *ends, size_t ends_len, const uint8_t *sheets, size_t sheets_len,
+                                       const uint32_t *budgets, size_t budgets_len, uint32_t *rows, size_t rows_len,
+                                       uint16_t *answers, size_t answers_len);
+
+/* A program with room for every shape that is tried. A line too many has its end, its sheet and its budget here too. */
+enum { LINES = 257 };
+
+typedef struct {
+    const uint16_t *table;
+    size_t table_len;
+    uint8_t text[LINES * 8];
+    size_t text_len;
+    uint32_t ends[LINES];
+    size_t ends_len;
+    uint8_t sheets[LINES * 128];
+    size_t sheets_len;
+    uint32_t budgets[LINES];
+    size_t budgets_len;
+    size_t rows_len, room;
+} program;
+
+/* One call gives this number, and on number 0 these rows and these words. */
+static void runs_program(const char *name, programming *run, const program *p, uint32_t number, const uint32_t *rows,
+                         const uint16_t *words, size_t words_len) {
+    size_t rows_len = number == THOLDRIMASH_PROGRAM_READ ? p->rows_len : 0;
+    lent table = lend(p->table, p->table_len * sizeof *p->table), text = lend(p->text, p->text_len),
+         ends = lend(p->ends, p->ends_len * sizeof *p->ends), sheets = lend(p->sheets, p->sheets_len),
+         budgets = lend(p->budgets, p->budgets_len * sizeof *p->budgets), own = lend(NULL, p->rows_len * sizeof *rows),
+         answers = lend(NULL, p->room * sizeof *words);
+
+    tholdrimash_answer told =
+        run(at(table), p->table_len, at(text), p->text_len, at(ends), p->ends_len, at(sheets), p->sheets_len,
+            at(budgets), p->budgets_len, at(own), p->rows_len, at(answers), p->room);
+    check(name, "number", told.number == number);
+    check(name, "visits and place", told.visits == 0 && told.place == 0);
+    check(name, "words", told.words == words_len);
+    check(name, "table, text, ends, sheets and budgets",
+          unchanged(table) && unchanged(text) && unchanged(ends) && unchanged(sheets) && unchanged(budgets));
+    check(name, "rows", holds(own, rows, rows_len * sizeof *rows));
+    check(name, "answers", holds(answers, words, words_len * sizeof *words));
+
+    give_back(table);
+    give_back(text);
+    give_back(ends);
+    give_back(sheets);
+    give_back(budgets);
+    give_back(own);
+    give_back(answers);
+}
+
+/* Scan and lookup both give these rows and words. */
+static void both_run(const char *name, const program *p, const uint32_t *rows, const uint16_t *words, size_t len) {
+    runs_program(name, tholdrimash_match_program, p, THOLDRIMASH_PROGRAM_READ, rows, words, len);
+    runs_program(name, tholdrimash_lookup_program, p, THOLDRIMASH_PROGRAM_READ, rows, words, len);
+}
+
+static void both_refuse(const char *name, const program *p, uint32_t number) {
+    runs_program(name, tholdrimash_match_program, p, number, NULL, NULL, 0);
+    runs_program(name, tholdrimash_lookup_program, p, number, NULL, NULL, 0);
+}
+
+/* A program on T without lines. */
+static void begin(program *p, size_t room) { *p = (program){.table = t, .table_len = LEN(t), .room = room}; }
+
+/* One more line, with the entries of its sheet. A line of more than 120 bytes has no sheet. */
+static void add_line(program *p, const char *line, const char *entries) {
+    size_t n = strlen(line);
+    memcpy(p->text + p->text_len, line, n);
+    p->text_len += n;
+    p->ends[p->ends_len++] = (uint32_t)p->text_len;
+    if (n <= 120) p->sheets_len += fill(p->sheets + p->sheets_len, n, entries);
+    p->budgets[p->budgets_len++] = ALL;
+    p->rows_len += 2;
+}
+
+/* A line of five bytes that T reads, as `mov p`. */
+static void add_mov(program *p, const char *line) { add_line(p, line, "free(3,5)=5"); }
+
+/* T's readings of `mov p`, `mov 7` and `mov q`. */
+#define MOV_P 1, 4, 0, 1, 1, 1, 4, 5, 1, 0, 0
+#define MOV_7 1, 3, 0, 0, 1, 0, 4, 5
+#define MOV_Q 1, 4, 0, 1, 1, 1, 4, 5, 1, 1, 0
+
+/* Chapter 11: its lines, in rooms that are larger, full, and full before the last line, and before the second. */
+static void lines_of_a_program(void) {
+    static const uint16_t words[] = {MOV_P, MOV_7, MOV_Q};
+    static const uint32_t all[] = {0, 0, 0, 11, 1, 19, 3, 19, 0, 19},
+                          short_of_one[] = {0, 0, 0, 11, 1, 19, 3, 19, 9, 19},
+                          short_of_two[] = {0, 0, 9, 11, 1, 11, 3, 11, 9, 11};
+    static program p;
+
+    begin(&p, 64);
+    add_mov(&p, "mov p");
+    add_mov(&p, "mov 7");
+    add_line(&p, "", "");
+    add_line(&p, "mov;", "");
+    add_mov(&p, "mov q");
+    both_run("a program", &p, all, words, 30);
+    p.room = 30;
+    both_run("a program, a buffer exactly full", &p, all, words, 30);
+    p.room = 29;
+    both_run("a program, one word short", &p, short_of_one, words, 19);
+    p.room = 18;
+    both_run("a program, short in the middle", &p, short_of_two, words, 11);
+    p.room = 30;
+    memcpy(p.text + p.text_len, " ;no line", 9);
+    p.text_len += 9;
+    both_run("text after the last end", &p, all, words, 30);
+
+    /* Each line is what the single call gives. */
+    static const uint32_t budgets[] = {14, 0, 15, ALL, ALL + 1}, numbers[] = {6, 0, 5, 0, 1, 0, 3, 0, 5, 0};
+    memcpy(p.budgets, budgets, sizeof budgets);
+    both_run("a budget for each line", &p, numbers, words, 0);
+    p.budgets[0] = 15;
+    p.sheets[72 + 3 * 6 + 5] = 6;
+    static const uint32_t bad_sheet[] = {0, 0, 4, 11, 1, 11, 3, 11, 5, 11};
+    p.budgets[1] = ALL;
+    both_run("a bad entry of one sheet", &p, bad_sheet, words, 11);
+}
+
+/* Lines that a longer one stands between, that are empty, that are none. */
+static void odd_lines(void) {
+    static const uint16_t both[] = {MOV_P, MOV_Q}, then[] = {MOV_P, MOV_7}, empty[] = {1, 0, 0, 0, 0, 1, 0, 0, 0, 0};
+    static const uint16_t no_parts[] = {1, 1, 0, 0, 0, 0, 0};
+    static const uint32_t around[] = {0, 0, 3, 11, 0, 11}, later[] = {0, 0, 9, 11, 0, 11}, twice[] = {0, 0, 0, 5};
+    static program p;
+    char longer[122];
+
+    memset(longer, 'a', 121);
+    longer[121] = 0;
+    begin(&p, 22);
+    add_mov(&p, "mov p");
+    add_line(&p, longer, "");
+    add_mov(&p, "mov q");
+    both_run("a line of 121 bytes", &p, around, both, LEN(both));
+
+    begin(&p, 19);
+    add_mov(&p, "mov p");
+    add_mov(&p, "mov q");
+    add_mov(&p, "mov 7");
+    both_run("a shorter answer later", &p, later, then, LEN(then));
+
+    begin(&p, 11);
+    p.table = no_parts;
+    p.table_len = LEN(no_parts);
+    add_line(&p, "", "");
+    add_line(&p, "", "");
+    both_run("equal ends", &p, twice, empty, LEN(empty));
+
+    begin(&p, 0);
+    both_run("no line", &p, NULL, NULL, 0);
+    memcpy(p.text, "mov p", 5);
+    p.text_len = 5;
+    both_run("no line, and a text", &p, NULL, NULL, 0);
+    p.table_len--;
+    both_refuse("no line, and a bad table", &p, THOLDRIMASH_BAD_TABLE);
+}
+
+/* 256 lines, and one more. */
+static void most_lines(void) {
+    static const uint16_t one[] = {MOV_7};
+    static uint16_t words[LINES * LEN(one)];
+    static uint32_t rows[2 * LINES];
+    static program p;
+
+    begin(&p, LEN(words));
+    for (uint32_t i = 0; i < LINES; i++) {
+        memcpy(words + i * LEN(one), one, sizeof one);
+        rows[2 * i + 1] = i * (uint32_t)LEN(one);
+        if (i == LINES - 1) both_run("256 lines", &p, rows, words, i * LEN(one));
+        add_mov(&p, "mov 7");
+    }
+    both_refuse("257 lines", &p, THOLDRIMASH_BAD_PROGRAM);
+}
+
+/* Good but for one thing, which makes it 17; and 2 if its table is bad as well. */
+static void spoilt(const char *name, const program *p) {
+    static program worse;
+    both_refuse(name, p, THOLDRIMASH_BAD_PROGRAM);
+    worse = *p;
+    worse.table_len--;
+    both_refuse(name, &worse, THOLDRIMASH_BAD_TABLE);
+}
+
+static void bad_programs(void) {
+    static const struct {
+        const char *name;
+        uint32_t ends[3];
+    } bad_ends[] = {
+        {"ends that fall", {10, 5, 15}},
+        {"a last end that falls", {5, 10, 9}},
+        {"an end past the text", {5, 10, 16}},
+        {"an end far off", {5, 10, 1U << 31}},
+        {"the greatest end", {UINT32_MAX, 10, 15}},
+        {"ends of other lines", {4, 10, 15}},
+    };
+    static program good, p;
+
+    begin(&good, 64);
+    add_mov(&good, "mov p");
+    add_mov(&good, "mov 7");
+    add_mov(&good, "mov q");
+    for (size_t i = 0; i < LEN(bad_ends); i++) {
+        p = good;
+        memcpy(p.ends, bad_ends[i].ends, sizeof bad_ends[i].ends);
+        spoilt(bad_ends[i].name, &p);
+    }
+    /* Ends that fall are bad whatever sheets there are: here none for the line that would end before it begins, or one
+     * as for an empty line. */
+    static const size_t fallen[] = {242 + 242, 242 + 2 + 242};
+    for (size_t i = 0; i < LEN(fallen); i++) {
+        p = good;
+        memcpy(p.ends, bad_ends[0].ends, sizeof bad_ends[0].ends);
+        memset(p.sheets, 255, sizeof p.sheets);
+        p.sheets_len = fallen[i];
+        spoilt("ends that fall, and sheets to them", &p);
+    }
+    p = good;
+    p.text_len--;
+    spoilt("a text one byte short", &p);
+    for (int more = -1; more < 2; more += 2) {
+        p = good;
+        p.ends_len += (size_t)more;
+        spoilt("an end more or fewer", &p);
+        p = good;
+        p.sheets_len += (size_t)more;
+        spoilt("a sheet's byte more or fewer", &p);
+        p = good;
+        p.budgets_len += (size_t)more;
+        spoilt("a budget more or fewer", &p);
+        p = good;
+        p.rows_len += (size_t)more;
+        spoilt("a row's word more or fewer", &p);
+        p = good;
+        p.rows_len += 2 * (size_t)more;
+        spoilt("a row more or fewer", &p);
+    }
+    p = good;
+    p.sheets_len = 0;
+    spoilt("no sheets", &p);
+    p = good;
+    p.ends_len = 0;
+    spoilt("no ends", &p);
+    p = good;
+    p.rows_len = 0;
+    spoilt("no rows", &p);
+    p = good;
+    p.budgets_len = 0;
+    spoilt("no budgets", &p);
+    p = good;
+    p.table_len--;
+    both_refuse("a bad table", &p, THOLDRIMASH_BAD_TABLE);
+}
+
 int main(void) {
     names();
     on_t();
@@ -709,6 +966,10 @@ int main(void) {
     lines(1, 513, 0);
     lines(32, 513, 0);
     unpacked();
+    lines_of_a_program();
+    odd_lines();
+    most_lines();
+    bad_programs();
     printf("interface.c: %u checks, %u failed\n", checks, failed);
     return failed != 0;
 }

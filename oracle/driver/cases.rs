@@ -1,5 +1,6 @@
-//! Inputs: tables, lines and sheets made from a seed, short ones exhaustively, and damaged copies of good ones.
-use crate::model::Call;
+//! Inputs: tables, lines and sheets made from a seed, short ones exhaustively, programs of several lines, and damaged copies
+//! of good ones.
+use crate::model::{Call, ProgramCall};
 use crate::random::Random;
 
 /// Enough for nearly every walk that ends.
@@ -454,6 +455,113 @@ pub fn make(random: &mut Random) -> Case {
     let line = trimmed(line, most);
     let sheet = pick_sheet(random, &line);
     Case { rulesets, line, sheet }
+}
+
+// Programs.
+
+/// The program of these lines, each with its sheet and its budget, and with room for rows exactly.
+pub fn joined(table: Vec<u16>, lines: &[Call], room: usize) -> ProgramCall {
+    let mut call = ProgramCall {
+        table,
+        text: Vec::new(),
+        ends: Vec::new(),
+        sheets: Vec::new(),
+        budgets: Vec::new(),
+        rows: 2 * lines.len(),
+        room,
+    };
+    for line in lines {
+        call.text.extend(&line.line);
+        call.ends.push(call.text.len() as u32);
+        call.sheets.extend(&line.sheet);
+        call.budgets.push(line.budget);
+    }
+    call
+}
+
+/// Another line for a case's table, one that some top rule might match.
+fn another_line(random: &mut Random, case: &Case) -> Vec<u8> {
+    let alphabet = *random.pick(&ALPHABETS);
+    let tops = case.rulesets.iter().filter(|(flag, _)| *flag == 0);
+    let tops: Vec<&Rule> = tops.flat_map(|(_, rules)| rules).collect();
+    let mut line = if tops.is_empty() || random.chance(150) {
+        (0..random.between(0, 8)).map(|_| *random.pick(alphabet)).collect()
+    } else {
+        let rule = (*random.pick(&tops)).clone();
+        expand(random, &case.rulesets, &rule, alphabet, 0)
+    };
+    if random.chance(200) {
+        let at = random.between(0, line.len());
+        line.insert(at, *random.pick(alphabet));
+    }
+    trimmed(line, 14)
+}
+
+/// A line of a program: the case's own or another, some damaged, but with a sheet of the right length.
+fn program_line(random: &mut Random, case: &Case, own: &Call) -> Call {
+    let mut call = own.clone();
+    if !random.chance(300) {
+        call.line = another_line(random, case);
+        call.sheet = pick_sheet(random, &call.line);
+    }
+    if random.chance(120) {
+        call = damaged(random, &call);
+        let n = call.line.len();
+        call.sheet.resize(if n > 120 { 0 } else { 2 * (n + 1) * (n + 1) }, 255);
+    }
+    if random.chance(80) {
+        call.budget = *random.pick(&[0, 1, 2, 3, 5, 8, 13, 21]);
+    }
+    call
+}
+
+/// A random program of a seed, with room for most of its answers.
+pub fn program(random: &mut Random) -> ProgramCall {
+    let case = make(random);
+    let own = if random.chance(330) {
+        case.call(Some(random))
+    } else {
+        case.call(None)
+    };
+    let mut count = *random.pick(&[0, 1, 1, 2, 2, 3, 3, 4, 5, 6, 8]);
+    if !is_crowd(&case) && random.chance(5) {
+        count = *random.pick(&[40, 255, 256, 257]);
+    }
+    let lines: Vec<Call> = (0..count).map(|_| program_line(random, &case, &own)).collect();
+    let mut call = joined(own.table, &lines, ROOM);
+    if random.chance(200) {
+        call.text.extend(b"; no line"); // belongs to none
+    }
+    call
+}
+
+/// A good program with something changed that may make it a bad one.
+pub fn damaged_program(random: &mut Random, good: &ProgramCall) -> ProgramCall {
+    let mut call = good.clone();
+    match random.below(9) {
+        0 | 1 if !call.ends.is_empty() => {
+            let at = random.below(call.ends.len());
+            let length = call.text.len() as u32;
+            let near = [call.ends[at].wrapping_add(1), call.ends[at].wrapping_sub(1)];
+            let far = [0, length, length + 1, 1 << 16, 1 << 31, u32::MAX];
+            call.ends[at] = *random.pick(&[&near[..], &far].concat());
+        }
+        2 => random.shuffle(&mut call.ends),
+        3 => resize(random, &mut call.text, b'a'),
+        4 => {
+            let last = call.ends.last().copied().unwrap_or(0);
+            resize(random, &mut call.ends, last);
+        }
+        5 => resize(random, &mut call.sheets, 255),
+        6 => resize(random, &mut call.budgets, BUDGET),
+        7 => call.rows = *random.pick(&[0, call.rows + 1, call.rows + 2, call.rows.saturating_sub(1)]),
+        _ => damage_word(random, &mut call.table),
+    }
+    if random.chance(150) {
+        // Two things at once, so that the order of the checks shows.
+        call = damaged_program(random, &call);
+    }
+    call
 }
 
 // Short cases, exhaustively.

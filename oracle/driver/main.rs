@@ -1,16 +1,18 @@
 //! Compares the proved code with the Rust, in one process: walker moves and cuts, prefix queries, match calls by scan and by
-//! lookup, and selection. What the Rust does not decide is held to a third reading of document 01 (model.rs).
+//! lookup, programs of many lines, and selection. What the Rust does not decide is held to a third reading of documents 01
+//! and 02 (model.rs).
 //!
-//!     compare [--cases N] [--seed S] [--only walker|prefixes|matching|selection] [--quick] [--record FOLDER]
+//!     compare [--cases N] [--seed S] [--only walker|prefixes|matching|programs|selection] [--quick] [--record FOLDER]
 //!
 //! `--cases` is how many random cases of the seed are made; `--quick` leaves out the exhaustive short ones. `--record` writes
-//! the recorded sample (record.rs) and compares nothing. The last line is 'N passed, M failed', where each of the four is one
+//! the recorded sample (record.rs) and compares nothing. The last line is 'N passed, M failed', where each of the five is one
 //! test, which passes if nothing differs. Ends with 1 if anything differs, 2 if it is used wrongly.
 mod cases;
 mod ground;
 mod matching;
 mod model;
 mod notation;
+mod programs;
 mod random;
 // The crate in rust/ has a layout of its own, and functions for which the Rust has none.
 #[path = "../../rust/src/raw.rs"]
@@ -31,10 +33,11 @@ mod ways;
 use report::Report;
 
 /// What can be compared alone: a name, and what compares it.
-const PARTS: [(&str, fn(&mut Report, &Args)); 4] = [
+const PARTS: [(&str, fn(&mut Report, &Args)); 5] = [
     ("walker", walker),
     ("prefixes", prefixes),
     ("matching", matching),
+    ("programs", programs),
     ("selection", selection),
 ];
 
@@ -92,6 +95,12 @@ fn matching(report: &mut Report, args: &Args) {
     matching::random(report, args.seed, args.cases);
 }
 
+fn programs(report: &mut Report, args: &Args) {
+    programs::numbers(report);
+    programs::shapes(report);
+    programs::random(report, args.seed, args.cases / 5);
+}
+
 fn selection(report: &mut Report, args: &Args) {
     selection::numbers(report);
     if !args.quick {
@@ -103,7 +112,8 @@ fn selection(report: &mut Report, args: &Args) {
 fn main() {
     let Some(args) = args() else {
         eprintln!(
-            "usage: compare [--cases N] [--seed S] [--only walker|prefixes|matching|selection] [--quick] [--record FOLDER]"
+            "usage: compare [--cases N] [--seed S] [--only walker|prefixes|matching|programs|selection] [--quick] \
+             [--record FOLDER]"
         );
         std::process::exit(2);
     };

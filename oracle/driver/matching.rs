@@ -28,8 +28,8 @@ fn compare(report: &mut Report, call: &Call, lookup: bool) -> Answer {
     told
 }
 
-/// Compares the answer with the Rust's, and what the Rust's calls show of visits and records with what the model counts.
-fn with_rust(report: &mut Report, call: &Call, lookup: bool, how: &str, told: &Answer, walked: Walked) {
+/// Compares an answer of 0, 1 or 9 with the Rust's, and what the Rust's calls show of visits and records with what the model counts.
+pub fn with_rust(report: &mut Report, call: &Call, lookup: bool, how: &str, told: &Answer, walked: Walked) {
     let Some((words, seen)) = rust_match(call, lookup) else {
         report.differ(format!("{how}: the Rust panics on {}", show(call)));
         return;
@@ -70,7 +70,7 @@ fn with_rust(report: &mut Report, call: &Call, lookup: bool, how: &str, told: &A
     report.see("  a match dropped by the greatest count", walked.dropped_by_count > 0);
 }
 
-fn number_name(number: u32) -> &'static str {
+pub fn number_name(number: u32) -> &'static str {
     [
         "number 0", "number 1", "number 2", "number 3", "number 4", "number 5", "number 6", "number 7", "number 8",
         "number 9",

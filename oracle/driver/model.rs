@@ -504,6 +504,87 @@ pub fn answer(call: &Call, lookup: bool) -> (Answer, Walked) {
     (result, walked)
 }
 
+// Programs.
+
+const MOST_LINES: usize = 256;
+
+/// What a program call is given. For rows it is lent so many words.
+#[derive(Clone, Debug)]
+pub struct ProgramCall {
+    pub table: Vec<u16>,
+    pub text: Vec<u8>,
+    pub ends: Vec<u32>,
+    pub sheets: Vec<u8>,
+    pub budgets: Vec<u32>,
+    pub rows: usize,
+    pub room: usize,
+}
+
+/// What it returns. Rows and answers are what is written at the start of what is lent for them.
+#[derive(Clone, Debug, Default, PartialEq)]
+pub struct ProgramAnswer {
+    pub number: u32,
+    pub visits: u32,
+    pub words: u32,
+    pub place: u32,
+    pub rows: Vec<u32>,
+    pub answers: Vec<u16>,
+}
+
+/// The bytes of each line and of its sheet, if the lines are as many as may be and their ends and sheets fit.
+fn lines_of(call: &ProgramCall) -> Option<Vec<(&[u8], &[u8])>> {
+    if call.ends.len() > MOST_LINES {
+        return None;
+    }
+    let (mut lines, mut start, mut sheets) = (Vec::new(), 0, &call.sheets[..]);
+    for end in &call.ends {
+        let line = call.text.get(start..*end as usize)?;
+        let side = line.len() + 1;
+        let length = if line.len() > LONGEST_LINE { 0 } else { 2 * side * side };
+        lines.push((line, sheets.get(..length)?));
+        sheets = &sheets[length..];
+        start = *end as usize;
+    }
+    sheets.is_empty().then_some(lines)
+}
+
+/// The whole program, and beside it each line as the single call that it is, with what that gives.
+pub fn program(call: &ProgramCall, lookup: bool) -> (ProgramAnswer, Vec<(Call, Answer, Walked)>) {
+    let refused = |number| {
+        let answer = ProgramAnswer {
+            number,
+            ..ProgramAnswer::default()
+        };
+        (answer, Vec::new())
+    };
+    if read_table(&call.table).is_none() {
+        return refused(2);
+    }
+    let Some(lines) = lines_of(call) else {
+        return refused(17);
+    };
+    if call.budgets.len() != lines.len() || call.rows != 2 * lines.len() {
+        return refused(17);
+    }
+
+    let (mut told, mut singles) = (ProgramAnswer::default(), Vec::new());
+    for ((line, sheet), budget) in lines.into_iter().zip(&call.budgets) {
+        let single = Call {
+            table: call.table.clone(),
+            line: line.to_vec(),
+            sheet: sheet.to_vec(),
+            budget: *budget,
+            room: call.room - told.answers.len(),
+        };
+        let (own, walked) = answer(&single, lookup);
+        told.rows.extend([own.number, told.answers.len() as u32]);
+        told.answers.extend(&own.answer);
+        singles.push((single, own, walked));
+    }
+    told.words = told.answers.len() as u32;
+    (told, singles)
+}
+
 // Selection.
 
 /// What a selection call returns: number, count, the words after it, and what is written at the buffer's start.

@@ -1,11 +1,14 @@
 //! The two sides of the comparison, each behind safe functions: the proved code, by its C interface and by the C functions
 //! of the crate `probe`, and the Rust, by liboracle.so. All in this process.
-use crate::model::{Answer, Call, Chosen};
-use crate::raw::{self, Order};
+use crate::model::{Answer, Call, Chosen, ProgramAnswer, ProgramCall};
+use crate::raw::{self, Order, Program};
 use crate::shown::{self, Seen, PANICKED};
 
 /// What stands at each place of a lent buffer before a call. No answer word and no index is this.
 const UNTOUCHED: u16 = 65535;
+
+/// The same of rows.
+const UNTOUCHED_ROW: u32 = u32::MAX;
 
 /// As many words of that on either side of the buffer, which no call may touch.
 const AROUND: usize = 8;
@@ -88,11 +91,15 @@ thread_local! {
 
 /// Lends a buffer of so many words to a call, which says how many it wrote. What it returned, what it wrote at the buffer's
 /// start, and whether the rest of the buffer and the words around it are as they were.
-fn lend<T>(room: usize, call: impl FnOnce(&mut [u16]) -> (T, usize)) -> (T, Vec<u16>, bool) {
-    let mut words = vec![UNTOUCHED; AROUND + room + AROUND];
+fn lend<W: Copy + PartialEq, T>(
+    untouched: W,
+    room: usize,
+    call: impl FnOnce(&mut [W]) -> (T, usize),
+) -> (T, Vec<W>, bool) {
+    let mut words = vec![untouched; AROUND + room + AROUND];
     let (told, written) = call(&mut words[AROUND..AROUND + room]);
     let end = AROUND + written.min(room);
-    let left_alone = words[..AROUND].iter().chain(&words[end..]).all(|w| *w == UNTOUCHED);
+    let left_alone = words[..AROUND].iter().chain(&words[end..]).all(|w| *w == untouched);
     (told, words[AROUND..end].to_vec(), left_alone)
 }
 
@@ -100,7 +107,7 @@ fn lend<T>(room: usize, call: impl FnOnce(&mut [u16]) -> (T, usize)) -> (T, Vec<
 /// the buffer on a refusal.
 pub fn proved_match(call: &Call, lookup: bool) -> (Answer, bool) {
     let order = if lookup { Order::Lookup } else { Order::Scan };
-    let (told, answer, left_alone) = lend(call.room, |buffer| {
+    let (told, answer, left_alone) = lend(UNTOUCHED, call.room, |buffer| {
         let told = raw::call(order, &call.table, &call.line, &call.sheet, call.budget, buffer);
         let written = if told.number == 0 { told.words as usize } else { 0 };
         (told, written)
@@ -113,6 +120,36 @@ pub fn proved_match(call: &Call, lookup: bool) -> (Answer, bool) {
         answer,
     };
     (answer, left_alone)
+}
+
+/// What a call of the proved matcher on a program returned, and whether it left alone what it had to: the answers after their
+/// last word, and rows and answers on a refusal.
+pub fn proved_program(call: &ProgramCall, lookup: bool) -> (ProgramAnswer, bool) {
+    let order = if lookup { Order::Lookup } else { Order::Scan };
+    let program = Program {
+        text: &call.text,
+        ends: &call.ends,
+        sheets: &call.sheets,
+        budgets: &call.budgets,
+    };
+    let ((told, answers, answers_left), rows, rows_left) = lend(UNTOUCHED_ROW, call.rows, |rows| {
+        let told = lend(UNTOUCHED, call.room, |answers| {
+            let told = raw::program(order, &call.table, program, rows, answers);
+            let written = told.words as usize;
+            (told, written)
+        });
+        let written = if told.0.number == 0 { call.rows } else { 0 };
+        (told, written)
+    });
+    let answer = ProgramAnswer {
+        number: told.number,
+        visits: told.visits,
+        words: told.words,
+        place: told.place,
+        rows,
+        answers,
+    };
+    (answer, answers_left && rows_left)
 }
 
 // Every unsafe call below lends slices by their own pointers and lengths.
@@ -153,7 +190,7 @@ pub fn rust_match(call: &Call, lookup: bool) -> Option<(Vec<u16>, Seen)> {
 /// What a call of the proved selection returned, and whether it left the rest of the buffer alone.
 pub fn proved_select(words: &[u32], last: u32, room: usize) -> (Chosen, bool) {
     let mut words = words.to_vec();
-    let (told, chosen, left_alone) = lend(room, |buffer| {
+    let (told, chosen, left_alone) = lend(UNTOUCHED, room, |buffer| {
         let told = raw::select(&mut words, last, buffer);
         let written = if told.number == 0 { told.count as usize } else { 0 };
         (told, written)
@@ -274,7 +311,7 @@ pub fn rust_moves(line: &[u8], w: Walker, wanted: u8) -> Moves {
 
 /// The rules that lookup tries, by their places among the table's records.
 pub fn proved_query(table: &[u16], line: &[u8], room: usize) -> Vec<u16> {
-    let (count, found, left_alone) = lend(room, |buffer| {
+    let (count, found, left_alone) = lend(UNTOUCHED, room, |buffer| {
         let count = unsafe {
             probe_query_prefixed(
                 table.as_ptr(),

@@ -14,6 +14,8 @@
 //! - [`match_line`] finds the readings with the greatest exact count, [`lookup_line`] the same ones
 //!   by prefix.
 //! - [`Readings::read`] reads the words that they write as trees.
+//! - [`match_program`] and [`lookup_program`] do the same for up to 256 lines in one call, which
+//!   judges the table once; [`LineAnswers`] goes through what each line is.
 //! - [`select`] chooses the outcomes of least known size, and refuses a tie on the last pass.
 //!
 //! Two rules that overlap, `mov` with an expression and `mov` with a rule of ruleset 1, which is
@@ -77,6 +79,7 @@
 
 mod listing;
 mod matcher;
+mod program;
 #[allow(unsafe_code)]
 mod raw;
 mod readings;
@@ -84,5 +87,9 @@ mod resolver;
 
 pub use listing::{read_table, write_table, ReadAnswer, WriteAnswer, MOST_BYTES, MOST_WORDS};
 pub use matcher::{lookup_line, match_line, Answer};
+pub use program::{
+    lookup_program, match_program, sheet_len, LineAnswer, LineAnswers, Program, ProgramAnswer,
+    MOST_LINES,
+};
 pub use readings::{Argument, Kind, Readings, Tree};
 pub use resolver::{select, Pass, Selection};

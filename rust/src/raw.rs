@@ -22,6 +22,22 @@ pub struct Selection {
     pub count: u32,
 }
 
+/// The lines of a program, lent together: what a program call reads beside the table.
+#[derive(Clone, Copy, Debug, Default, PartialEq, Eq, Hash)]
+pub struct Program<'a> {
+    /// The lines' bytes, one line after another, with nothing between them. What stands after the
+    /// last end belongs to no line.
+    pub text: &'a [u8],
+    /// Where each line ends in the text, for up to 256 lines. A line begins where the one before it
+    /// ends, the first one at 0; equal ends are an empty line.
+    pub ends: &'a [u32],
+    /// The lines' sheets, one after another: 2(n+1)^2 bytes for a line of n up to 120, and none for
+    /// a longer one.
+    pub sheets: &'a [u8],
+    /// A budget for each line.
+    pub budgets: &'a [u32],
+}
+
 /// Which rules a call tries: all top rules, or those that the line's prefixes lead to.
 pub enum Order {
     Scan,
@@ -53,6 +69,40 @@ extern "C" {
         budget: u32,
         answer: *mut u16,
         answer_len: usize,
+    ) -> Answer;
+
+    fn tholdrimash_match_program(
+        table: *const u16,
+        table_len: usize,
+        text: *const u8,
+        text_len: usize,
+        ends: *const u32,
+        ends_len: usize,
+        sheets: *const u8,
+        sheets_len: usize,
+        budgets: *const u32,
+        budgets_len: usize,
+        rows: *mut u32,
+        rows_len: usize,
+        answers: *mut u16,
+        answers_len: usize,
+    ) -> Answer;
+
+    fn tholdrimash_lookup_program(
+        table: *const u16,
+        table_len: usize,
+        text: *const u8,
+        text_len: usize,
+        ends: *const u32,
+        ends_len: usize,
+        sheets: *const u8,
+        sheets_len: usize,
+        budgets: *const u32,
+        budgets_len: usize,
+        rows: *mut u32,
+        rows_len: usize,
+        answers: *mut u16,
+        answers_len: usize,
     ) -> Answer;
 
     fn tholdrimash_select(
@@ -103,6 +153,45 @@ pub fn call(
             budget,
             answer.as_mut_ptr(),
             answer.len(),
+        )
+    }
+}
+
+pub fn program(
+    order: Order,
+    table: &[u16],
+    program: Program<'_>,
+    rows: &mut [u32],
+    answers: &mut [u16],
+) -> Answer {
+    let function = match order {
+        Order::Scan => tholdrimash_match_program,
+        Order::Lookup => tholdrimash_lookup_program,
+    };
+    let Program {
+        text,
+        ends,
+        sheets,
+        budgets,
+    } = program;
+    // SAFETY: each pointer and length is a slice's own. Only `rows` and `answers` are written, and
+    // they overlap nothing, since they are borrowed to be changed.
+    unsafe {
+        function(
+            table.as_ptr(),
+            table.len(),
+            text.as_ptr(),
+            text.len(),
+            ends.as_ptr(),
+            ends.len(),
+            sheets.as_ptr(),
+            sheets.len(),
+            budgets.as_ptr(),
+            budgets.len(),
+            rows.as_mut_ptr(),
+            rows.len(),
+            answers.as_mut_ptr(),
+            answers.len(),
         )
     }
 }

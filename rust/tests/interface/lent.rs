@@ -3,8 +3,8 @@
 
 use std::fmt::Debug;
 use tholdrimash::{
-    lookup_line, match_line, read_table, select, write_table, Answer, Pass, ReadAnswer, Selection,
-    WriteAnswer,
+    lookup_line, lookup_program, match_line, match_program, read_table, select, write_table,
+    Answer, Pass, Program, ProgramAnswer, ReadAnswer, Selection, WriteAnswer,
 };
 
 /// Stands around what is lent, and in every place of a buffer.
@@ -98,6 +98,72 @@ impl Call<'_> {
     /// Both give this refusal, by this number.
     pub fn refused(self, number: u32, refusal: Answer) {
         assert_eq!(self.both(), (refusal, vec![]));
+        assert_eq!(refusal.number(), number);
+        assert_eq!(refusal.written(), Err(refusal));
+    }
+}
+
+/// What a program call is given. It lends so many words for rows, which should be two a line.
+#[derive(Clone, Debug)]
+pub struct ProgramCall {
+    pub table: Vec<u16>,
+    pub text: Vec<u8>,
+    pub ends: Vec<u32>,
+    pub sheets: Vec<u8>,
+    pub budgets: Vec<u32>,
+    pub rows: usize,
+    pub room: usize,
+}
+
+/// What a program call gives: the answer, the rows and the answer words written.
+pub type ProgramTold = (ProgramAnswer, Vec<u32>, Vec<u16>);
+
+type ProgramFunction = fn(&[u16], Program<'_>, &mut [u32], &mut [u16]) -> ProgramAnswer;
+
+impl ProgramCall {
+    pub fn scan(&self) -> ProgramTold {
+        self.by(match_program)
+    }
+
+    pub fn lookup(&self) -> ProgramTold {
+        self.by(lookup_program)
+    }
+
+    fn by(&self, function: ProgramFunction) -> ProgramTold {
+        let mut table = Lent::new(&self.table, FILLER);
+        let mut text = Lent::new(&self.text, 0xA5);
+        let mut ends = Lent::new(&self.ends, u32::MAX);
+        let mut sheets = Lent::new(&self.sheets, 0xA5);
+        let mut budgets = Lent::new(&self.budgets, u32::MAX);
+        let mut rows = Lent::new(&vec![u32::MAX; self.rows], u32::MAX);
+        let mut answers = buffer(self.room);
+        let program = Program {
+            text: text.given(),
+            ends: ends.given(),
+            sheets: sheets.given(),
+            budgets: budgets.given(),
+        };
+        let told = function(table.given(), program, rows.given(), answers.given());
+        table.unchanged();
+        text.unchanged();
+        ends.unchanged();
+        sheets.unchanged();
+        budgets.unchanged();
+        let written = told.written();
+        let rows = rows.changed(if written.is_ok() { self.rows } else { 0 });
+        (told, rows, answers.changed(written.unwrap_or(0)))
+    }
+
+    /// What scan and lookup both give.
+    pub fn both(&self) -> ProgramTold {
+        let told = self.scan();
+        assert_eq!(told, self.lookup(), "scan and lookup");
+        told
+    }
+
+    /// Both give this refusal, by this number, and write nothing.
+    pub fn refused(&self, number: u32, refusal: ProgramAnswer) {
+        assert_eq!(self.both(), (refusal, vec![], vec![]));
         assert_eq!(refusal.number(), number);
         assert_eq!(refusal.written(), Err(refusal));
     }

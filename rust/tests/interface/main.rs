@@ -1,10 +1,11 @@
 //! The crate's functions against the linked library: document 01's bench cases, every number, and
-//! tables as text beside a model of them, on memory that is watched.
+//! tables as text and programs beside models of them, on memory that is watched.
 
 mod bench;
 mod lent;
 mod listing;
 mod model;
+mod program;
 mod random;
 mod readings;
 mod refusals;
