@@ -1,6 +1,6 @@
 -- How tight the promise is: of each rule that was prepared, any two calls that the contract allows leave the same four words. It is
 -- stated over the contract itself, `Post`.
-use mathlib.Core.Path.{_≡_, sym, _∙_}
+use mathlib.Core.Path.{_≡_}
 use Prim.Native.Nat.{ℕ, _+_, _*_, _<_}
 use lib.ListN.{getD}
 use denote.Ref.{now}

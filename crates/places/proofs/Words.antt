@@ -1,6 +1,6 @@
 -- The four words of a rule: each fits 16 bits in an accepted table, and laying one rule's words leaves the words of every
 -- other rule as they were, since four times two different places lie at least four apart.
-use mathlib.Core.Path.{_≡_, refl, sym, ap, subst, _∙_}
+use mathlib.Core.Path.{_≡_, sym, ap, subst, _∙_}
 use mathlib.Core.Bool.{true}
 use mathlib.Core.List.{List, []}
 use Prim.Native.Nat.{ℕ, _+_, _*_, _-_, _≤_, _<_}
@@ -14,9 +14,9 @@ use Rattle.plain.proofs.Lists.{listed-length, listed-at}
 use Rattle.defs.specs.Table.{rulesetsIn, recordsIn, partsIn, partsFrom, rulesetAt, ruleSpan, tableFits, sizesFit, lengthFits}
 use Rattle.defs.specs.Ruledef.{beginsAt, startsOf}
 use Rattle.defs.specs.declared.ruledef.Parts.{Parts}
-use Rattle.defs.proofs.Fits.{Sizes, sizes-bound}
+use Rattle.defs.proofs.Fits.{sizes-bound}
 use Rattle.readings.proofs.Records.{pair-within, few-records, span-within}
-use Rattle.places.specs.Places.{PlacedAt, Placed, PlaceAsked, Laid}
+use Rattle.places.specs.Places.{PlacedAt, Placed, Laid}
 
 -- an accepted table has at most 9,763 words
 pub table-short : (t : List ℕ) → tableFits t ≡ true → length t ≤ 9763

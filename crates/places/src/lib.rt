@@ -20,7 +20,7 @@ pub const FROM: usize = 2;
 pub const TO: usize = 3;
 
 // The words of as many rules as a table may have.
-pub const ROOM: usize = 2048;
+pub const ROOM: usize = WORDS * ruledef::MOST_RULES;
 
 // Lays one rule's words.
 fn place_rule(table: &[u16], starts: &[u16], rule: u16, places: &mut [u16])
@@ -42,7 +42,7 @@ fn place_rule(table: &[u16], starts: &[u16], rule: u16, places: &mut [u16])
 // Prepares the rules of a list.
 pub fn place_rules(table: &[u16], starts: &[u16], rules: &[u16], count: usize, places: &mut [u16])
     requires { ⌜ PlaceAsked (now table) (now starts) (now rules) (now places) count ⌝ }
-    ensures { λ _. ⌜ Placed (now (table .entry)) (now (places .exit)) (now (rules .entry)) count ⌝ }
+    ensures answers { λ _. ⌜ Placed (now (table .entry)) (now (places .exit)) (now (rules .entry)) count ⌝ }
 {
     let mut i = 0;
     while i < count {

@@ -148,8 +148,8 @@ fn put_run(order: &[usize], count: usize, key: usize, rules: &mut [u16], from: u
     found
 }
 
-// Writes the rules to try on a line: those of its prefix's beginnings, the shortest first, within one in table order. No
-// table is read: its order says all that is needed.
+// Writes the rules to try on a line: those of its prefix's beginnings, the shortest first, and within one length in table
+// order. The table is lent for the promise alone: its order says all that is needed.
 pub fn find_rules(
     table: &[u16],
     order: &[usize],

@@ -3,8 +3,8 @@
 use mathlib.Core.Path.{_≡_, refl, sym, ap, subst, _∙_}
 use mathlib.Core.Bool.{Bool, true, false}
 use mathlib.Core.Logic.{inl, inr}
-use mathlib.Core.List.{List, [], _∷_, _++_, map, flatMap, List·Memᴰ, List·Memᴰ·append-cases, List·Memᴰ·not-nil}
-use Prim.Native.Nat.{ℕ, suc, _≤_, _<_}
+use mathlib.Core.List.{List, [], _∷_, flatMap, List·Memᴰ, List·Memᴰ·append-cases, List·Memᴰ·not-nil}
+use Prim.Native.Nat.{ℕ, suc, _≤_}
 use native.Mathlib.Omega.{arith}
 use lib.ListN.{length, getD, take}
 use lib.Seq.{getD-take, length-take-le}
@@ -14,14 +14,14 @@ use Rattle.plain.proofs.Tests.{not-both}
 use Rattle.defs.specs.Table.{ruleParts}
 use Rattle.ruledef_map.specs.RuledefMap.{linePrefix, rulePrefix, sameBytes, topRules, withPrefix, foundIn, foundRules}
 use Rattle.readings.specs.Plan.{room}
-use Rattle.places.specs.Places.{PlacedAt, Placed}
+use Rattle.places.specs.Places.{PlacedAt}
 use Rattle.walk.proofs.Held.{member-at}
 use Rattle.trials.specs.declared.Order.{Order}
 use Rattle.trials.specs.declared.Order.the-variants.{Scan, Lookup}
 use Rattle.trials.specs.Told.{LineAccepted, ReadAsked}
 use Rattle.trials.specs.Orders.{rulesOf}
 use Rattle.trials.proofs.Ordered.{chosen-by}
-use Rattle.program.specs.Prepared.{Prepared, Ordered, Ready, ChosenFor}
+use Rattle.program.specs.Prepared.{Prepared, Ordered, ChosenFor}
 
 -- ---- a rule that was chosen is a top rule
 

@@ -1,22 +1,18 @@
 -- The table prepared for all lines: every top rule is listed, so every top rule has its place; for lookup they are put in prefix
--- order besides. And what the contracts say of demand 3.
-use mathlib.Core.Path.{_≡_, refl, sym, ap, subst, _∙_}
-use mathlib.Core.Bool.{true, false}
+-- order besides.
+use mathlib.Core.Path.{_≡_, sym, subst, _∙_}
+use mathlib.Core.Bool.{true}
 use mathlib.Core.Logic.{inl, inr}
 use mathlib.Core.List.{List, [], _∷_, List·Memᴰ, List·Memᴰ·cases-cons, List·Memᴰ·not-nil}
-use Prim.Native.Nat.{ℕ, zero, suc, _+_, _≤_, _<_}
+use Prim.Native.Nat.{ℕ, suc, _≤_, _<_}
 use native.Mathlib.Omega.{arith}
 use lib.ListN.{length, getD, take}
 use lib.Seq.{getD-take, length-take-le}
 use Rattle.defs.specs.Table.{tableFits}
 use Rattle.defs.specs.Ruledef.{startsOf}
 use Rattle.ruledef_map.specs.RuledefMap.{topRules}
-use Rattle.lines.specs.Lines.{linesOf, programFits}
 use Rattle.places.specs.Places.{PlacedAt, Placed, PlaceAsked}
 use Rattle.prefix_order.specs.PrefixOrder.{entries, OrderAsked}
-use Rattle.runs.specs.Program.{ProgramTold, scanProgram, lookupProgram}
-use Rattle.runs.specs.Demand.{ReadProgram, AllWithin}
-use Rattle.runs.proofs.Agreed.{scan-program-reads, lookup-program-reads, programs-agree}
 use Rattle.trials.specs.declared.Order.{Order}
 use Rattle.trials.specs.declared.Order.the-variants.{Scan}
 use Rattle.trials.specs.Told.{all-tops}
@@ -64,20 +60,3 @@ module _ (t starts rules : List ℕ) (n : ℕ) (ok : tableFits t ≡ true) (begi
         prepared = prepared;
         ordered = record { room = long; long = room; few = few; listed = λ _. tops; sorted = λ _. e };
       }
-
--- ---- demand 3, and lookup beside the scan, in the contracts
-
-module _ (t text ends sheets budgets rows answers : List ℕ) (r : ProgramTold) where
-  pub scan-reads : r ≡ scanProgram t text ends sheets budgets rows answers → tableFits t ≡ true
-      → programFits (length text) ends (length sheets) (length budgets) (length rows) ≡ true → ReadProgram t text ends sheets budgets answers r
-  scan-reads e ok fit = subst (ReadProgram t text ends sheets budgets answers) (sym e) (scan-program-reads t text ends sheets budgets rows answers ok fit)
-
-  module _ (e : r ≡ lookupProgram t text ends sheets budgets rows answers) where
-    pub lookup-reads : tableFits t ≡ true → programFits (length text) ends (length sheets) (length budgets) (length rows) ≡ true → ReadProgram t text ends sheets budgets answers r
-    lookup-reads ok fit = subst (ReadProgram t text ends sheets budgets answers) (sym e) (lookup-program-reads t text ends sheets budgets rows answers ok fit)
-
-    pub lookup-agrees : AllWithin t (linesOf text ends sheets budgets)
-        → (r .rows ≡ scanProgram t text ends sheets budgets rows answers .rows) × (r .told .words ≡ scanProgram t text ends sheets budgets rows answers .told .words)
-    lookup-agrees all =
-        let (p, q) = programs-agree t text ends sheets budgets rows answers all in
-        (ap (λ (x : ProgramTold). x .rows) e ∙ p, ap (λ (x : ProgramTold). x .told .words) e ∙ q)

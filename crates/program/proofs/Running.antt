@@ -11,16 +11,17 @@ use native.Mathlib.Omega.{arith}
 use lib.Dec.{leb, eqb}
 use lib.ListN.{length, getD, take, drop, set, length-set, length-append, length-drop, drop-of-length-le, take-append-drop}
 use lib.Seq.{slice, drop-cons, take-nil, take-all, take-suc, take-set-le, getD-set-same, getD-set-other, getD-drop, length-take-le, take-append-add, drop-append-add, drop-drop}
-use borrow.Author.Tests.{leb-true, eqb-true}
+use borrow.Author.Tests.{leb-true}
 use Rattle.plain.specs.Choice.{select}
 use Rattle.plain.specs.Told.{Told}
 use Rattle.plain.proofs.Tests.{and-left, and-right}
 use Rattle.lines.specs.Lines.{Line, sheetSize, linesFrom, linesOf, endsFit, sheetsSize, programFits}
 use Rattle.lines.proofs.Measured.{fitting}
 use Rattle.readings.specs.Plan.{room}
-use Rattle.runs.specs.Program.{Ran, taken, lineThen, runLines, lineCall}
+use Rattle.runs.specs.Program.{Ran, taken, runLines, lineCall}
 use Rattle.readings.specs.Call.{callWith}
-use Rattle.runs.proofs.Shapes.{Shape, call-shape, Kept, shape-keeps}
+use Rattle.runs.specs.Demand.{Kept}
+use Rattle.runs.proofs.Shapes.{Shape, call-shape, shape-keeps}
 use Rattle.trials.specs.declared.Answer.{Answer}
 use Rattle.trials.specs.declared.Order.{Order}
 use Rattle.trials.specs.Told.{says}

@@ -209,9 +209,11 @@ fn run_lines(
             &mut answers[used..],
         );
         let told = row_of(got);
+        let after = used + told.words;
         rows[row] = told.number;
+        // 256 answers of at most 12,589,058 words each fit 32 bits (the law `call-words`).
         rows[row + 1] = used as u32;
-        used += told.words;
+        used = after;
         from = end;
         sheet = next;
     }

@@ -3,28 +3,26 @@
 -- both, though the words before it may stand in another order, and what a call tells depends on the room's length alone.
 use mathlib.Core.Path.{_≡_, refl, sym, ap, ap₂, subst, _∙_}
 use mathlib.Core.Bool.{Bool, true, false, not}
-use mathlib.Core.List.{List, [], _∷_, _++_, List·Memᴰ, List·Memᴰ·head, List·Memᴰ·tail}
-use Prim.Native.Nat.{ℕ, _+_, _-_, _≤_}
+use mathlib.Core.List.{List, [], _∷_, List·Memᴰ, List·Memᴰ·head, List·Memᴰ·tail}
+use Prim.Native.Nat.{ℕ, _+_}
 use native.Mathlib.Omega.{arith}
-use lib.ListN.{length, take, drop, length-drop}
+use lib.ListN.{length, drop, length-drop}
 use Rattle.plain.specs.Choice.{select}
 use Rattle.plain.specs.Told.{Told}
-use Rattle.plain.proofs.Tests.{tested}
 use Rattle.defs.specs.Table.{tableFits}
 use Rattle.ruledef_map.specs.RuledefMap.{linePrefix}
-use Rattle.readings.specs.Scene.{Scene, sceneOf}
+use Rattle.readings.specs.Scene.{Scene}
 use Rattle.readings.specs.Walk.{topPairs}
 use Rattle.readings.specs.Lookup.{foundPairs}
-use Rattle.readings.specs.Call.{Accepted, callWith, scanCall, lookupCall}
-use Rattle.readings.specs.Demand.{Within, Demand3}
+use Rattle.readings.specs.Call.{Accepted}
 use Rattle.readings.proofs.Calls as Calls
 use Rattle.readings.proofs.Numbers.{Case, table, bytes, extents, visits, walk, none-found, too-long, found, exactly}
 use Rattle.readings.proofs.Theorems.{scan-demand, lookup-demand, lookup-agrees}
 use Rattle.lines.specs.Lines.{Line, linesOf, programFits}
-use Rattle.runs.specs.Program.{Ran, taken, lineThen, runLines, lineCall, ProgramTold, refusedWhole, ranWhole, programWith, scanProgram, lookupProgram}
-use Rattle.runs.specs.Demand.{LineWithin, LineReads, ReadLines, none, more, ReadProgram, AllWithin}
+use Rattle.runs.specs.Program.{Ran, taken, runLines, lineCall, ProgramTold, refusedWhole, ranWhole, programWith, scanProgram, lookupProgram}
+use Rattle.runs.specs.Demand.{LineWithin, LineReads, Kept, ReadLines, none, more, ReadProgram, AllWithin}
 use Rattle.runs.proofs.Wholes.{ran-whole}
-use Rattle.runs.proofs.Shapes.{Kept, shape-keeps, shape-same, same-taken, call-shape}
+use Rattle.runs.proofs.Shapes.{shape-keeps, shape-same, same-taken, call-shape}
 
 -- the rules that a lookup tries
 abbrev prefixed : Scene → List (ℕ × ℕ)
@@ -32,12 +30,18 @@ prefixed s = foundPairs s (linePrefix (s .line))
 
 -- ---- demand 3, line by line
 
-module _ (t : List ℕ) (call : Line → List ℕ → Told) (reads : (x : Line) (room : List ℕ) → LineReads t x room (call x room)) where
+module _ (t : List ℕ) (call : Line → List ℕ → Told) (reads : (x : Line) (room : List ℕ) → LineReads t x room (call x room))
+    (keeps : (x : Line) (room : List ℕ) → Kept room (call x room)) where
   pub lines-read : (xs : List Line) (used : ℕ) (room : List ℕ) → ReadLines t xs used room (runLines call xs used room)
   unfolding runLines
   lines-read [] used room = none refl
   lines-read (x ∷ xs) used room =
-      more (call x room) (reads x room) (lines-read xs (used + taken (call x room)) (drop (taken (call x room)) (call x room .buffer))) refl
+      more (call x room) (reads x room) (keeps x room)
+      (subst (λ (l : List ℕ). ReadLines t xs (used + taken (call x room)) l (runLines call xs (used + taken (call x room)) (drop (taken (call x room)) (call x room .buffer)))) (keeps x room .rest)
+      (lines-read xs (used + taken (call x room)) (drop (taken (call x room)) (call x room .buffer)))) refl
+
+keeps : (order : Scene → List (ℕ × ℕ)) (t : List ℕ) (x : Line) (room : List ℕ) → Kept room (lineCall order t x room)
+keeps order t x room = shape-keeps (call-shape order t (x .bytes) (x .sheet) (x .budget)) room
 
 scan-reads : (t : List ℕ) (x : Line) (room : List ℕ) → LineReads t x room (lineCall topPairs t x room)
 scan-reads t x room ok w = scan-demand t (x .bytes) (x .sheet) (x .budget) room ok w
@@ -51,14 +55,14 @@ module _ (t text ends sheets budgets rows answers : List ℕ) (ok : tableFits t 
   scan-program-reads = record {
     ran = runLines (lineCall topPairs t) (linesOf text ends sheets budgets) 0 answers;
     is = ran-whole topPairs t text ends sheets budgets rows answers ok fit;
-    reads = lines-read t (lineCall topPairs t) (scan-reads t) (linesOf text ends sheets budgets) 0 answers;
+    reads = lines-read t (lineCall topPairs t) (scan-reads t) (keeps topPairs t) (linesOf text ends sheets budgets) 0 answers;
   }
 
   pub lookup-program-reads : ReadProgram t text ends sheets budgets answers (lookupProgram t text ends sheets budgets rows answers)
   lookup-program-reads = record {
     ran = runLines (lineCall prefixed t) (linesOf text ends sheets budgets) 0 answers;
     is = ran-whole prefixed t text ends sheets budgets rows answers ok fit;
-    reads = lines-read t (lineCall prefixed t) (lookup-reads t) (linesOf text ends sheets budgets) 0 answers;
+    reads = lines-read t (lineCall prefixed t) (lookup-reads t) (keeps prefixed t) (linesOf text ends sheets budgets) 0 answers;
   }
 
 -- ---- lookup and scan, line by line

@@ -1,8 +1,8 @@
 -- Lines one after another, cut in two: the first lines run as by themselves, the others on the room that these leave, their
 -- rows moved on by the words used before. And where there is room, what room there is does not matter.
-use mathlib.Core.Path.{_≡_, refl, sym, ap, ap₂, subst, _∙_}
-use mathlib.Core.List.{List, [], _∷_, _++_, append-assoc, append-nil}
-use Prim.Native.Nat.{ℕ, _+_, _-_, _≤_}
+use mathlib.Core.Path.{_≡_, refl, sym, ap, ap₂, _∙_}
+use mathlib.Core.List.{List, [], _∷_, _++_, append-assoc}
+use Prim.Native.Nat.{ℕ, _+_, _≤_}
 use native.Mathlib.Omega.{arith}
 use lib.ListN.{length, take, drop, length-append, length-drop}
 use lib.Seq.{take-at, drop-at, drop-drop, length-take-le}
@@ -10,7 +10,7 @@ use Rattle.plain.specs.Told.{Told}
 use Rattle.lines.specs.Lines.{Line}
 use Rattle.runs.specs.Program.{Ran, taken, lineThen, runLines}
 use Rattle.runs.specs.Joined.{movedRows, NoneTooLong}
-use Rattle.runs.proofs.Shapes.{Shape, Kept, shape-keeps, shape-same, shape-room, shape-words, same-taken}
+use Rattle.runs.proofs.Shapes.{Shape, shape-keeps, shape-room, shape-words, same-taken}
 
 module _ (call : Line → List ℕ → Told) where
   -- the room after a line
@@ -120,6 +120,10 @@ module _ (call : Line → List ℕ → Told) where
         long : (x : Line) (xs : List Line) (room : List ℕ) → taken (call x room) + length (wrote xs (after x room)) ≡ length (take (taken (call x room)) (call x room .buffer) ++ wrote xs (after x room))
         long x xs room = omega (arith, length-append (take (taken (call x room)) (call x room .buffer)) (wrote xs (after x room)), line-wrote x room)
 
+    -- so the answers behind the words used are unchanged
+    pub lines-rest : (xs : List Line) (room : List ℕ) → drop (runLines call xs 0 room .words) (runLines call xs 0 room .answers) ≡ drop (runLines call xs 0 room .words) room
+    lines-rest xs room = sym (left-is xs room) ∙ left-rest xs room ∙ ap (λ (n : ℕ). drop n room) (sym (words-wrote xs room))
+
     -- lines of which none lacks room are told the same wherever there is room for what they take
     roomy : (ys : List Line) (used : ℕ) (a b : List ℕ) → NoneTooLong (runLines call ys used a .rows) → length (wrote ys a) ≤ length b
         → (runLines call ys used a .rows ≡ runLines call ys used b .rows) × (wrote ys a ≡ wrote ys b)
@@ -163,7 +167,7 @@ module _ (call : Line → List ℕ → Told) where
           rest = drop (runLines call xs 0 room .words) (runLines call xs 0 room .answers)
 
           rest-is : rest ≡ drop (runLines call xs 0 room .words) room
-          rest-is = sym (left-is xs room) ∙ left-rest xs room ∙ ap (λ (n : ℕ). drop n room) (sym (words-wrote xs room))
+          rest-is = lines-rest xs room
 
           fits : length (wrote ys own) ≤ length rest
           fits = omega (arith, words-wrote ys own, ap length rest-is, length-drop (runLines call xs 0 room .words) room)

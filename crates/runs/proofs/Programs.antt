@@ -1,9 +1,9 @@
 -- Programs joined, and the program of one line. A line's bytes, sheet and budget are read from its own part of what is lent, so
 -- the lines of two programs joined are the lines of the one and then of the other.
 use mathlib.Core.Path.{_≡_, refl, sym, ap, ap₂, subst, _∙_}
-use mathlib.Core.Bool.{Bool, true, false, _&&_}
+use mathlib.Core.Bool.{true, _&&_}
 use mathlib.Core.List.{List, [], _∷_, _++_, map}
-use Prim.Native.Nat.{ℕ, zero, suc, _+_, _*_, _-_, _≤_}
+use Prim.Native.Nat.{ℕ, _+_, _-_, _≤_}
 use native.Mathlib.Omega.{arith}
 use lib.Dec.{leb}
 use lib.ListN.{length, getD, take, drop, length-drop, take-append-drop}
@@ -15,11 +15,11 @@ use Rattle.defs.specs.Table.{tableFits}
 use Rattle.readings.specs.Scene.{Scene}
 use Rattle.readings.specs.Call.{callWith}
 use Rattle.lines.specs.Lines.{Line, sheetSize, linesFrom, linesOf, endsFit, sheetsSize, programFits}
-use Rattle.runs.specs.Program.{Ran, taken, lineThen, runLines, lineCall, ProgramTold, ranWhole, programWith}
+use Rattle.runs.specs.Program.{taken, runLines, lineCall, ProgramTold, ranWhole, programWith}
 use Rattle.runs.specs.Joined.{movedRows, NoneTooLong, lastEnd}
 use Rattle.lines.proofs.Measured.{fitting}
 use Rattle.runs.proofs.Shapes.{call-shape}
-use Rattle.runs.proofs.Joined.{lines-roomy}
+use Rattle.runs.proofs.Joined.{lines-rest, lines-roomy}
 use Rattle.runs.proofs.Wholes.{ran-whole}
 
 -- a part behind a beginning
@@ -111,6 +111,14 @@ module _ (text ends sheets budgets : List ℕ) (text′ ends′ sheets′ budget
           words = r .told .words + s .told .words;
           answers = take (r .told .words) (r .told .buffer) ++ (take (s .told .words) (s .told .buffer) ++ drop (r .told .words + s .told .words) answers);
         })) (sym a) (sym b)
+
+-- ---- what a program leaves unchanged
+
+-- the answers behind the words used
+pub program-rest : (order : Scene → List (ℕ × ℕ)) (t text ends sheets budgets answers : List ℕ)
+    → drop (runLines (lineCall order t) (linesOf text ends sheets budgets) 0 answers .words) (runLines (lineCall order t) (linesOf text ends sheets budgets) 0 answers .answers)
+    ≡ drop (runLines (lineCall order t) (linesOf text ends sheets budgets) 0 answers .words) answers
+program-rest order t text ends sheets budgets answers = lines-rest (lineCall order t) (λ x. call-shape order t (x .bytes) (x .sheet) (x .budget)) (linesOf text ends sheets budgets) answers
 
 -- ---- one line
 

@@ -3,9 +3,8 @@
 -- and what is behind the words taken stays as it was.
 use mathlib.Core.Path.{_≡_, refl, sym, ap, subst, _∙_}
 use mathlib.Core.Logic.{_⊎_, inl, inr}
-use mathlib.Core.Bool.{true, false}
-use mathlib.Core.List.{List, [], _∷_, _++_, map}
-use Prim.Native.Nat.{ℕ, _+_, _-_, _≤_, _<_}
+use mathlib.Core.List.{List, [], _∷_, map}
+use Prim.Native.Nat.{ℕ, _+_, _-_, _≤_}
 use native.Mathlib.Decide.{decLe}
 use native.Mathlib.Omega.{arith}
 use lib.Dec.{eqb}
@@ -16,12 +15,13 @@ use Rattle.plain.specs.Choice.{select}
 use Rattle.plain.specs.Buffers.{atStart}
 use Rattle.plain.specs.Told.{Told}
 use Rattle.readings.specs.Scene.{Scene, sceneOf}
-use Rattle.readings.specs.Walk.{Match, tries}
+use Rattle.readings.specs.Walk.{tries}
 use Rattle.readings.specs.Answer.{answerWords}
 use Rattle.readings.specs.Call.{tree, written, callWith}
 use Rattle.readings.proofs.Calls as Calls
 use Rattle.readings.proofs.Numbers.{Case, table, bytes, extents, visits, walk, none-found, too-long, found, exactly, stop-numbers}
 use Rattle.runs.specs.Program.{taken}
+use Rattle.runs.specs.Demand.{Kept}
 
 abbrev refusal : ℕ → ℕ → ℕ → List ℕ → Told
 refusal n v p b = record { number = n; visits = v; words = 0; place = p; buffer = b }
@@ -58,12 +58,6 @@ module _ (order : Scene → List (ℕ × ℕ)) (t line sheet : List ℕ) (budget
   call-shape = of-case (exactly order t line sheet budget [] (call [] .number) .0 refl)
 
 -- ---- what follows of the buffer
-
--- what a call tells that leaves so many words of a buffer of its own
-pub record Kept (b : List ℕ) (r : Told) : Type 0 where
-  pub long : length (r .buffer) ≡ length b
-  pub fits : taken r ≤ length b
-  pub rest : drop (taken r) (r .buffer) ≡ drop (taken r) b
 
 module _ (b : List ℕ) where
   nothing-taken : (n v p : ℕ) → (n ≡ 0 → ⊥) → taken (refusal n v p b) ≡ 0

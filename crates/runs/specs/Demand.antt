@@ -1,16 +1,14 @@
 -- Demand 3 for every line of a program, over the reading relation, with the room left as the line's room.
 -- In words: docs/MANUAL.md, 11.
 use mathlib.Core.Path.{_≡_}
-use mathlib.Core.Bool.{true}
 use mathlib.Core.List.{List, [], _∷_, List·Memᴰ}
-use Prim.Native.Nat.{ℕ, _+_}
+use Prim.Native.Nat.{ℕ, _+_, _≤_}
 use lib.ListN.{length, drop}
 use Rattle.plain.specs.Told.{Told}
-use Rattle.defs.specs.Table.{tableFits}
 use Rattle.readings.specs.Scene.{sceneOf}
 use Rattle.readings.specs.Call.{Accepted}
 use Rattle.readings.specs.Demand.{Within, Demand3}
-use Rattle.lines.specs.Lines.{Line, linesOf, programFits}
+use Rattle.lines.specs.Lines.{Line, linesOf}
 use Rattle.runs.specs.Program.{Ran, ProgramTold, taken, lineThen, ranWhole}
 
 -- the scan of a line, if it is accepted, stays within visits, depth and pool
@@ -22,11 +20,17 @@ abbrev pub LineReads : List ℕ → Line → List ℕ → Told → Type 0
 LineReads t x room r =
     Accepted t (x .bytes) (x .sheet) (x .budget) → Within t (x .bytes) (x .sheet) (x .budget) → Demand3 (sceneOf t (x .bytes) (x .sheet)) room r
 
+-- what a line leaves of its room: the words that it takes stand at its start, and the rest is as it was
+pub record Kept (room : List ℕ) (r : Told) : Type 0 where
+  pub long : length (r .buffer) ≡ length room
+  pub fits : taken r ≤ length room
+  pub rest : drop (taken r) (r .buffer) ≡ drop (taken r) room
+
 -- rows and answers come of lines that keep it, one after another, each on the room that those before it left
 pub data ReadLines (t : List ℕ) : List Line → ℕ → List ℕ → Ran → Type 0 where
   none : {used : ℕ} {room : List ℕ} {ran : Ran} → ran ≡ record { rows = []; words = used; answers = room } → ReadLines t [] used room ran
-  more : {x : Line} {xs : List Line} {used : ℕ} {room : List ℕ} {ran rest : Ran} (r : Told) → LineReads t x room r
-      → ReadLines t xs (used + taken r) (drop (taken r) (r .buffer)) rest → ran ≡ lineThen r used rest → ReadLines t (x ∷ xs) used room ran
+  more : {x : Line} {xs : List Line} {used : ℕ} {room : List ℕ} {ran rest : Ran} (r : Told) → LineReads t x room r → Kept room r
+      → ReadLines t xs (used + taken r) (drop (taken r) room) rest → ran ≡ lineThen r used rest → ReadLines t (x ∷ xs) used room ran
 
 -- of a program that is not refused
 pub record ReadProgram (t text ends sheets budgets answers : List ℕ) (told : ProgramTold) : Type 0 where

@@ -1,6 +1,6 @@
 -- A whole program: its lines one after another, each by the single call on the room that is left.
 -- In words: docs/MANUAL.md, 11.
-use mathlib.Core.Bool.{Bool, not}
+use mathlib.Core.Bool.{not}
 use mathlib.Core.List.{List, [], _∷_, _++_}
 use Prim.Native.Nat.{ℕ, _+_}
 use lib.Dec.{eqb}

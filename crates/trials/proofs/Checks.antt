@@ -1,5 +1,6 @@
 -- The checks of a line: what each finds is what the whole call's definition tests after the table, in its order.
-use mathlib.Core.Path.{_≡_, refl, sym, ap, _∙_}
+use mathlib.Core.Path.{_≡_, refl, sym, ap, subst, _∙_}
+use mathlib.Core.Logic.{⊎-elim}
 use mathlib.Core.Bool.{Bool, true, false}
 use mathlib.Core.Option.{Option, none, some, Option·none-ne-some, Option·some-inj}
 use mathlib.Core.List.{List, [], _∷_}
@@ -9,16 +10,19 @@ use lib.Dec.{leb, ltb}
 use lib.ListN.{length}
 use borrow.Author.Tests.{le-leb, lt-leb, ltb-false}
 use Rattle.plain.specs.Choice.{select}
-use Rattle.plain.proofs.Tests.{and-both, and-false-left, and-false-right}
+use Rattle.plain.proofs.Tests.{tested, and-both, and-false-left, and-false-right}
 use Rattle.line.specs.Line.{isAllowed, firstBad, endsOpen, orElse, faultAt, numbered, lineSays, lineVerdict}
 use Rattle.line.specs.declared.LineCheck.{LineCheck}
 use Rattle.line.specs.declared.LineCheck.the-variants as LineCheck
 use Rattle.extents.specs.Sheet.{sheetFits}
 use Rattle.readings.specs.Call.{budgetFits}
 use Rattle.readings.proofs.Calls.{bad-line, bad-sheet, bad-budget}
+use Rattle.defs.specs.Table.{tableFits}
+use Rattle.trials.specs.declared.Answer.{Answer}
 use Rattle.trials.specs.declared.Answer.the-variants.{BadLine, BadSheet, BadBudget}
+use Rattle.trials.specs.declared.Checked.{Checked}
 use Rattle.trials.specs.declared.Checked.the-variants.{Good, Bad}
-use Rattle.trials.specs.Told.{CheckedAs, accepts, refuses}
+use Rattle.trials.specs.Told.{says, listedCall, LineAccepted, checkedOf}
 
 -- ---- the line's fault
 
@@ -65,31 +69,74 @@ module _ (line : List ℕ) (found : LineCheck) (says : lineSays found ≡ lineVe
 -- ---- the checks, in their order
 
 module _ (line sheet : List ℕ) (budget : ℕ) where
-  pub bytes-bad : (p : ℕ) → faultAt line ≡ some p → CheckedAs line sheet budget (Bad (BadLine p))
-  bytes-bad p e = refuses (λ t table rules b. sym (bad-line (λ s. rules) t line sheet budget b p table e))
+  pub bytes-bad : (p : ℕ) → faultAt line ≡ some p → Bad (BadLine p) ≡ checkedOf line sheet budget
+  unfolding checkedOf
+  bytes-bad p e = sym (rw (checkedOf, e))
 
   module _ (bytes : faultAt line ≡ none) where
-    pub extents-bad : sheetFits sheet (length line) ≡ false → CheckedAs line sheet budget (Bad BadSheet)
-    extents-bad e = refuses (λ t table rules b. sym (bad-sheet (λ s. rules) t line sheet budget b table bytes e))
+    pub extents-bad : sheetFits sheet (length line) ≡ false → Bad BadSheet ≡ checkedOf line sheet budget
+    unfolding checkedOf
+    extents-bad e = sym (rw (checkedOf, bytes, e))
 
     module _ (extents : sheetFits sheet (length line) ≡ true) where
-      refused : budgetFits budget ≡ false → CheckedAs line sheet budget (Bad BadBudget)
-      refused e = refuses (λ t table rules b. sym (bad-budget (λ s. rules) t line sheet budget b table bytes extents e))
+      refused : budgetFits budget ≡ false → Bad BadBudget ≡ checkedOf line sheet budget
+      unfolding checkedOf
+      refused e = sym (rw (checkedOf, bytes, extents, e))
 
-      pub budget-none : budget ≡ 0 → CheckedAs line sheet budget (Bad BadBudget)
+      pub budget-none : budget ≡ 0 → Bad BadBudget ≡ checkedOf line sheet budget
       unfolding budgetFits
       budget-none e = refused (and-false-left (leb 1 budget) (leb budget 1000000) (lt-leb 1 budget (omega arith)))
 
-      pub budget-great : 1000000 < budget → CheckedAs line sheet budget (Bad BadBudget)
+      pub budget-great : 1000000 < budget → Bad BadBudget ≡ checkedOf line sheet budget
       unfolding budgetFits
       budget-great h = refused (and-false-right (leb 1 budget) (leb budget 1000000) (lt-leb budget 1000000 h))
 
-      pub all-good : (budget ≡ 0 → ⊥) → budget ≤ 1000000 → CheckedAs line sheet budget Good
+      accepted : budgetFits budget ≡ true → Good ≡ checkedOf line sheet budget
+      unfolding checkedOf
+      accepted e = sym (rw (checkedOf, bytes, extents, e))
+
+      pub all-good : (budget ≡ 0 → ⊥) → budget ≤ 1000000 → Good ≡ checkedOf line sheet budget
       unfolding budgetFits
-      all-good ne h =
-          accepts
-          (record {
-            bytes = bytes;
-            extents = extents;
-            visits = and-both (leb 1 budget) (leb budget 1000000) (le-leb 1 budget (omega (arith, ne))) (le-leb budget 1000000 h);
-          })
+      all-good ne h = accepted (and-both (leb 1 budget) (leb budget 1000000) (le-leb 1 budget (omega (arith, ne))) (le-leb budget 1000000 h))
+
+  -- ---- what they find
+
+  -- the line's checks accept, or refuse with what the whole call tells, whichever rules of an accepted table it tries
+  data CheckedAs : Checked → Type 0 where
+    accepts : LineAccepted line sheet budget → CheckedAs Good
+    refuses : {a : Answer} → ((t : List ℕ) → tableFits t ≡ true → (rules : List (ℕ × ℕ)) (b : List ℕ) → says a b ≡ listedCall rules t line sheet budget b) → CheckedAs (Bad a)
+
+  checked-as : CheckedAs (checkedOf line sheet budget)
+  checked-as = by-line (faultAt line) refl
+    where
+      by-budget : faultAt line ≡ none → sheetFits sheet (length line) ≡ true → CheckedAs (checkedOf line sheet budget)
+      by-budget f g =
+          ⊎-elim
+          (λ e. subst CheckedAs (accepted f g e) (accepts (record { bytes = f; extents = g; visits = e })))
+          (λ e. subst CheckedAs (refused f g e) (refuses (λ t table rules b. sym (bad-budget (λ s. rules) t line sheet budget b table f g e))))
+          (tested (budgetFits budget))
+
+      by-sheet : faultAt line ≡ none → CheckedAs (checkedOf line sheet budget)
+      by-sheet f =
+          ⊎-elim
+          (λ g. by-budget f g)
+          (λ g. subst CheckedAs (extents-bad f g) (refuses (λ t table rules b. sym (bad-sheet (λ s. rules) t line sheet budget b table f g))))
+          (tested (sheetFits sheet (length line)))
+
+      by-line : (o : Option ℕ) → faultAt line ≡ o → CheckedAs (checkedOf line sheet budget)
+      by-line none f = by-sheet f
+      by-line (some p) f = subst CheckedAs (bytes-bad p f) (refuses (λ t table rules b. sym (bad-line (λ s. rules) t line sheet budget b p table f)))
+
+  module _ {r : Checked} (is : r ≡ checkedOf line sheet budget) where
+    -- a refusal of the line's checks is the whole call's, for an accepted table
+    pub refused-tells : {a : Answer} → r ≡ Bad a → (t : List ℕ) → tableFits t ≡ true → (rules : List (ℕ × ℕ)) (b : List ℕ) → says a b ≡ listedCall rules t line sheet budget b
+    refused-tells e = go (subst CheckedAs (sym is ∙ e) checked-as)
+      where
+        go : {a : Answer} → CheckedAs (Bad a) → (t : List ℕ) → tableFits t ≡ true → (rules : List (ℕ × ℕ)) (b : List ℕ) → says a b ≡ listedCall rules t line sheet budget b
+        go (refuses k) = k
+
+    pub accepted-by : r ≡ Good → LineAccepted line sheet budget
+    accepted-by e = go (subst CheckedAs (sym is ∙ e) checked-as)
+      where
+        go : CheckedAs Good → LineAccepted line sheet budget
+        go (accepts a) = a

@@ -22,9 +22,9 @@ use Rattle.trials.specs.declared.Checked.{Checked}
 use Rattle.trials.specs.declared.Checked.the-variants.{Bad}
 use Rattle.trials.specs.declared.Order.{Order}
 use Rattle.trials.specs.declared.Order.the-variants.{Scan, Lookup}
-use Rattle.trials.specs.Told.{says, listedCall, CheckedAs, Chosen, all-tops, by-prefix}
+use Rattle.trials.specs.Told.{says, listedCall, checkedOf, Chosen, all-tops, by-prefix}
 use Rattle.trials.specs.Orders.{orderOf, rulesOf}
-use Rattle.trials.proofs.Telling.{refused-tells}
+use Rattle.trials.proofs.Checks.{refused-tells}
 use Rattle.trials.proofs.Choices.{tops-listed, found-listed, tops-call, found-call}
 
 -- ---- the rules listed, in the order that was asked for
@@ -43,9 +43,9 @@ module _ (how : Order) (t line sheet : List ℕ) (budget : ℕ) (b : List ℕ) w
   table-refused e = sym (bad-table (orderOf how) t line sheet budget b e)
 
   module _ (ok : tableFits t ≡ true) where
-    pub line-refused : {r : Checked} {a : Answer} → CheckedAs line sheet budget r → r ≡ Bad a → says a b ≡ callWith (orderOf how) t line sheet budget b
+    pub line-refused : {r : Checked} {a : Answer} → r ≡ checkedOf line sheet budget → r ≡ Bad a → says a b ≡ callWith (orderOf how) t line sheet budget b
     unfolding callWith
-    line-refused c e = refused-tells c e t ok (orderOf how (sceneOf t line sheet)) b
+    line-refused c e = refused-tells line sheet budget c e t ok (orderOf how (sceneOf t line sheet)) b
 
     pub chosen-by : (rules : List ℕ) → rules ≡ rulesOf how t line → Chosen t line rules
     chosen-by rules e = go how e

@@ -16,7 +16,7 @@ use Rattle.ruledef_map.specs.RuledefMap.{linePrefix}
 use Rattle.defs.specs.Table.{tableFits}
 use Rattle.readings.specs.Tree.{Tree}
 use Rattle.readings.specs.Scene.{Scene, Lawful, sceneOf}
-use Rattle.readings.specs.Plan.{Outcome, done, stop, run}
+use Rattle.readings.specs.Plan.{Outcome, stop, run}
 use Rattle.readings.specs.Walk.{Match, tries}
 use Rattle.readings.specs.Records.{pairOf}
 use Rattle.readings.specs.Answer.{exactCount, greatest, greatestCount, best, treeWords, wordsOf, answerWords}
@@ -37,15 +37,13 @@ use Rattle.answer.specs.Measured.{treesIn, measured}
 use Rattle.answer.specs.declared.Measure.{Measure}
 use Rattle.trials.specs.declared.Answer.{Answer}
 use Rattle.trials.specs.declared.Answer.the-variants.{Matched, NoMatch, TooLong}
-use Rattle.trials.specs.declared.Checked.{Checked}
-use Rattle.trials.specs.declared.Checked.the-variants.{Good, Bad}
 use Rattle.walk.specs.declared.Walked.{Walked}
 use Rattle.walk.specs.declared.Walked.the-variants.{Done, Stopped}
 use Rattle.walk.specs.declared.Refusal.{Refusal}
 use Rattle.walk.specs.declared.Refusal.the-variants as Refusal
 use Rattle.walk.specs.Met.{numberOf}
 use Rattle.trials.proofs.Choices.{chosen-at}
-use Rattle.trials.specs.Told.{says, listedCall, triedPairs, LineAccepted, CheckedAs, accepts, refuses, Chosen, all-tops, by-prefix, Listed, Tried, listed, stopped, TryAsked, TellAsked, ReadAsked, stoppedBy}
+use Rattle.trials.specs.Told.{says, listedCall, triedPairs, Chosen, all-tops, by-prefix, Listed, Tried, listed, stopped, TryAsked, TellAsked, ReadAsked, stoppedBy}
 
 -- ---- the scene's line and sheet do not matter to the answer's words
 
@@ -129,20 +127,6 @@ chosen-enough t line sheet rules ok law (all-tops e) =
     subst (Enough (sceneOf t line sheet)) (top-pairs t line sheet ok ∙ ap (map (pairOf t)) (sym e)) (scan-enough (sceneOf t line sheet) law)
 chosen-enough t line sheet rules ok law (by-prefix e) =
     subst (Enough (sceneOf t line sheet)) (found-pairs t line sheet ok (linePrefix line) ∙ ap (map (pairOf t)) (sym e)) (lookup-enough (sceneOf t line sheet) law)
-
--- a refusal of the line's checks is the whole call's, for an accepted table
-pub refused-tells : {line sheet : List ℕ} {budget : ℕ} {r : Checked} {a : Answer} → CheckedAs line sheet budget r → r ≡ Bad a
-    → (t : List ℕ) → tableFits t ≡ true → (rules : List (ℕ × ℕ)) (b : List ℕ) → says a b ≡ listedCall rules t line sheet budget b
-refused-tells {line} {sheet} {budget} c e = go (subst (CheckedAs line sheet budget) e c)
-  where
-    go : {a : Answer} → CheckedAs line sheet budget (Bad a) → (t : List ℕ) → tableFits t ≡ true → (rules : List (ℕ × ℕ)) (b : List ℕ) → says a b ≡ listedCall rules t line sheet budget b
-    go (refuses k) = k
-
-pub accepted-by : {line sheet : List ℕ} {budget : ℕ} {r : Checked} → CheckedAs line sheet budget r → r ≡ Good → LineAccepted line sheet budget
-accepted-by {line} {sheet} {budget} c e = go (subst (CheckedAs line sheet budget) e c)
-  where
-    go : CheckedAs line sheet budget Good → LineAccepted line sheet budget
-    go (accepts a) = a
 
 pub listed-by : {o : Outcome (List Match)} {store : List ℕ} {r : Walked} {left : ℕ} {pool : Pool} → Tried o store r → r ≡ Done left pool → Listed o store left pool
 listed-by {o} {store} m e = go (subst (Tried o store) e m)

@@ -1,5 +1,5 @@
 -- How tight the promises are: any two answers that a contract allows on the same arguments are equal. A line's answer is known
--- by its number and fields, and the checks' by the call that they refuse.
+-- by its number and fields.
 use mathlib.Core.Path.{_≡_, refl, sym, ap, _∙_}
 use mathlib.Core.List.{List}
 use Prim.Native.Nat.{ℕ}
@@ -11,6 +11,8 @@ use Rattle.plain.proofs.Answers.{one-answer}
 use Rattle.trials.specs.declared.Answer.{Answer}
 use Rattle.trials.specs.declared.Answer.the-variants.{Matched, NoMatch, BadTable, BadLine, BadSheet, BadBudget, Spent, TooDeep, PoolFull, TooLong}
 use Rattle.trials.specs.Told.{says}
+use Rattle.trials.specs.declared.Checked.{Checked}
+use Rattle.trials.proofs.check.Reads as check
 use Rattle.trials.proofs.read_line.Reads as read-line
 
 -- the case of a number and fields
@@ -55,6 +57,9 @@ buffer-of (TooLong v w) b = refl
 pub same-answer : (a c : Answer) (b d : List ℕ) → says a b ≡ says c d → (a ≡ c) × (b ≡ d)
 same-answer a c b d e =
     (sym (case-of-says a b) ∙ ap case-of e ∙ case-of-says c d, sym (buffer-of a b) ∙ ap (λ (r : Told). r .buffer) e ∙ buffer-of c d)
+
+pub check-tight : (κs a : _) (r s : Checked) (x y : _) → check.Post κs a r x → check.Post κs a s y → r ≡ s
+check-tight κs a r s x y = one-answer
 
 pub read-line-tight : (κs a : _) (r s : Answer) (x y : _) → read-line.Post κs a r x → read-line.Post κs a s y → (r ≡ s) × (now (x .1 .1 .1 .1 .1 .1 .1 .1 .1 .0) ≡ now (y .1 .1 .1 .1 .1 .1 .1 .1 .1 .0))
 read-line-tight κs a r s x y p q = same-answer r s _ _ (one-answer p q)

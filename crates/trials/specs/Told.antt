@@ -1,10 +1,11 @@
 -- What an answer says: document 01's number and fields for each case. And what the steps of a line's call give.
 use mathlib.Core.Path.{_≡_}
-use mathlib.Core.Bool.{true}
-use mathlib.Core.Option.{none}
+use mathlib.Core.Bool.{true, not}
+use mathlib.Core.Option.{Option, none, some}
 use mathlib.Core.List.{List, [], map}
 use Prim.Native.Nat.{ℕ, _≤_, _<_}
 use lib.ListN.{length, getD, take}
+use Rattle.plain.specs.Choice.{select}
 use Rattle.plain.specs.Told.{Told}
 use Rattle.line.specs.Line.{faultAt}
 use Rattle.defs.specs.Table.{tableFits, recordsIn}
@@ -59,11 +60,15 @@ pub record LineAccepted (line sheet : List ℕ) (budget : ℕ) : Type 0 where
   pub extents : sheetFits sheet (length line) ≡ true
   pub visits : budgetFits budget ≡ true
 
--- the line's checks accept, or refuse with what the whole call tells, whichever rules of an accepted table it tries
-pub data CheckedAs (line sheet : List ℕ) (budget : ℕ) : Checked → Type 0 where
-  accepts : LineAccepted line sheet budget → CheckedAs line sheet budget Good
-  refuses : {a : Answer} → ((t : List ℕ) → tableFits t ≡ true → (rules : List (ℕ × ℕ)) (b : List ℕ) → says a b ≡ listedCall rules t line sheet budget b)
-      → CheckedAs line sheet budget (Bad a)
+abbrev pub linedCheck : Option ℕ → Checked → Checked
+linedCheck none r = r
+linedCheck (some p) r = Bad (BadLine p)
+
+-- the line's checks run 3, 4, 5
+unfoldable pub checkedOf : List ℕ → List ℕ → ℕ → Checked
+checkedOf line sheet budget =
+    linedCheck (faultAt line)
+    (select (not (sheetFits sheet (length line))) (Bad BadSheet) (select (not (budgetFits budget)) (Bad BadBudget) Good))
 
 -- the rules that a call tries, by their places in the table: the scan's, or those that the line's prefixes lead to
 pub data Chosen (t line rules : List ℕ) : Type 0 where

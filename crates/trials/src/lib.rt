@@ -10,15 +10,14 @@ use walk::Place;
 use walk::Refusal;
 use walk::Walked;
 ghost use mathlib.Core.Path.{_≡_};
-ghost use mathlib.Core.List.{[], map};
-ghost use Prim.Native.Nat.{_+_, _-_, _<_, _≤_};
-ghost use lib.ListN.{length, take};
+ghost use mathlib.Core.List.{[]};
+ghost use Prim.Native.Nat.{_+_, _-_, _<_};
 ghost use Rattle.readings.specs.Scene.{sceneOf};
 ghost use Rattle.readings.specs.Plan.{run};
 ghost use Rattle.readings.specs.Walk.{tries};
 ghost use Rattle.readings.specs.Call.{matched};
 ghost use Rattle.answer.specs.Measured.{treesIn};
-ghost use Rattle.trials.specs.Told.{says, CheckedAs, TryAsked, Tried, TellAsked, ReadAsked, stoppedBy, listedCall, triedPairs};
+ghost use Rattle.trials.specs.Told.{says, checkedOf, TryAsked, Tried, TellAsked, ReadAsked, stoppedBy, listedCall, triedPairs};
 
 const MOST_VISITS: u32 = 1_000_000;
 
@@ -57,7 +56,7 @@ pub enum Order {
 
 // The line's checks, in their order: 3, 4, 5.
 pub fn check(line: &[u8], sheet: &[u8], budget: u32) -> Checked
-    ensures answers { λ r. ⌜ CheckedAs (now (line .entry)) (now (sheet .entry)) budget r ⌝ }
+    ensures answers { λ r. ⌜ r ≡ checkedOf (now (line .entry)) (now (sheet .entry)) budget ⌝ }
 {
     let found = line::check_line(line);
     match found {

@@ -5,43 +5,31 @@ use Rattle.lines.proofs.Measured.{too-many, ends-bad, sheets-bad, budge
 use borrow.Author.Needs.{needs}
 use Rattle.lines.proofs.check_program.Statement.{statement}
 use Rattle.lines.proofs.check_program.Tie as tie
-use Rattle.lines.proofs.check_program.Reads as reads
-use Rattle.lines.proofs.check_program.Lts as lts
-use Rattle.lines.proofs.measure.Reads as measure-reads
 
--- src/lib.rt:58:9
 returns : tie.Need-returns
 returns c = too-many _ _ _ _ _ (omega (arith, c .if1 .taken))
 
--- src/lib.rt:60:9
 measure-requires : tie.Need-measure-requires
 measure-requires c κs = omega (arith, c .if1 .left)
 
--- src/lib.rt:62:22
 enum-told : tie.Need-enum-told
 enum-told c = search needs
 
--- src/lib.rt:63:20
 enum-known-found : tie.Need-enum-known-found
 enum-known-found c = search needs
 
--- src/lib.rt:65:17
 returns-2 : tie.Need-returns-2
 returns-2 c = sheets-bad _ _ _ _ _ (omega (arith, c .before .before .before .before .before .if1 .left)) _ (c .before .before .before .before .measure .ensures) _ (c .before .before .found .given .1) (c .if2 .taken)
 
--- src/lib.rt:68:17
 returns-3 : tie.Need-returns-3
 returns-3 c = budgets-bad _ _ _ _ _ (omega (arith, c .before .before .before .before .before .before .if1 .left)) _ (c .before .before .before .before .before .measure .ensures) _ (c .before .before .before .found .given .1) (c .before .if2 .left) (c .if3 .taken)
 
--- src/lib.rt:70:21
 mul-result : tie.Need-mul-result
 mul-result c = search needs
 
--- src/lib.rt:54:1
 returns-4 : tie.Need-returns-4
 returns-4 c = ends-bad _ _ _ _ _ (omega (arith, c .before .before .before .if1 .left)) _ (c .before .before .measure .ensures) (c .enum-told .given .1)
 
--- src/lib.rt:54:1
 returns-5 : tie.Need-returns-5
 returns-5 c = rows-told _ _ _ _ _ (omega (arith, c .before .before .before .before .before .before .if1 .left)) _ (c .before .before .before .before .before .measure .ensures) _ (c .before .before .before .found .given .1) (c .before .if2 .left) (c .if3 .left) refl
 

@@ -7,9 +7,6 @@ use Rattle.lines.proofs.Measured.{Passed, passed-none, passed-more, pas
 use borrow.Author.Needs.{needs}
 use Rattle.lines.proofs.measure.Statement.{statement}
 use Rattle.lines.proofs.measure.Tie as tie
-use Rattle.lines.proofs.measure.Reads as reads
-use Rattle.lines.proofs.measure.Lts as lts
-use Rattle.lines.proofs.sheet_size.Reads as sheet-size-reads
 
 abbrev Inv-loop : tie.InvT-loop
 Inv-loop text ends from₀ sheets₀ i₀ from sheets i = Passed text ends from sheets i
@@ -17,51 +14,39 @@ Inv-loop text ends from₀ sheets₀ i₀ from sheets i = Passed text ends from 
 abbrev μ-loop : tie.MeasureT-loop
 μ-loop text ends from₀ sheets₀ i₀ from sheets i = length ends - i
 
--- src/lib.rt:38:5
 loop-holds : tie.Need-loop-holds Inv-loop μ-loop
 loop-holds c = passed-none
 
--- src/lib.rt:39:19
 mul-end : tie.Need-mul-end Inv-loop μ-loop
 mul-end c = omega (arith, c .loop-test .taken)
 
--- src/lib.rt:39:19
 shared-slice-read-end : tie.Need-shared-slice-read-end Inv-loop μ-loop
 shared-slice-read-end c = c .before .loop-test .taken
 
--- src/lib.rt:39:19
 cast-end : tie.Need-cast-end Inv-loop μ-loop
 cast-end c = omega (arith, c .shared-slice-known2 .given (c .before .before .loop .i))
 
--- src/lib.rt:40:9
 add-i : tie.Need-add-i Inv-loop μ-loop
 add-i c = omega (arith, c .before .loop-test .taken)
 
--- src/lib.rt:42:13
 returns : tie.Need-returns Inv-loop μ-loop
 returns c = ends-fall (c .before .before .before .loop .inv) (c .before .before .loop-test .taken) _ refl (omega (arith, c .if1 .taken))
 
--- src/lib.rt:45:13
 returns-2 : tie.Need-returns-2 Inv-loop μ-loop
 returns-2 c = ends-pass (c .before .before .before .before .loop .inv) (c .before .before .before .loop-test .taken) _ refl (omega (arith, c .before .if1 .left)) (omega (arith, c .if2 .taken))
 
--- src/lib.rt:47:19
 sheet-size-requires : tie.Need-sheet-size-requires Inv-loop μ-loop
 sheet-size-requires c κs = search needs
 
--- src/lib.rt:47:9
 add-sheets : tie.Need-add-sheets Inv-loop μ-loop
 add-sheets c = omega (arith, c .before .before .before .before .before .loop .inv .few, c .before .before .before .before .before .loop .inv .within, c .sheet-size .ensures .1, c .before .before .before .before .before .before .before .pre)
 
--- src/lib.rt:38:5
 loop-less : tie.Need-loop-less Inv-loop μ-loop
 loop-less c = omega (arith, c .before .before .before .before .loop-test .taken)
 
--- src/lib.rt:38:5
 loop-again : tie.Need-loop-again Inv-loop μ-loop
 loop-again c = passed-more (c .before .before .before .before .before .loop .inv) (c .before .before .before .before .loop-test .taken) _ refl (omega (arith, c .before .before .if1 .left)) (omega (arith, c .before .if2 .left)) _ (c .sheet-size .ensures .0) (c .sheet-size .ensures .1)
 
--- src/lib.rt:31:1
 returns-3 : tie.Need-returns-3 Inv-loop μ-loop
 returns-3 c = passed-all (c .before .loop .inv) (c .loop-test .left)
 

@@ -4,30 +4,22 @@ use Rattle.lines.proofs.Measured.{size-none, size-fits, size-is}
 use borrow.Author.Needs.{needs}
 use Rattle.lines.proofs.sheet_size.Statement.{statement}
 use Rattle.lines.proofs.sheet_size.Tie as tie
-use Rattle.lines.proofs.sheet_size.Reads as reads
-use Rattle.lines.proofs.sheet_size.Lts as lts
 
--- src/lib.rt:25:9
 returns : tie.Need-returns
 returns c = (size-none (c .before .args .n) (omega (arith, c .if1 .taken)), omega arith)
 
--- src/lib.rt:27:11
 add-result : tie.Need-add-result
 add-result c = search needs
 
--- src/lib.rt:27:21
 add-result-2 : tie.Need-add-result-2
 add-result-2 c = search needs
 
--- src/lib.rt:27:10
 mul-result : tie.Need-mul-result
 mul-result c = omega (arith, size-fits (c .before .args .n) (omega (arith, c .if1 .left)))
 
--- src/lib.rt:27:5
 mul-result-2 : tie.Need-mul-result-2
 mul-result-2 c = omega (arith, size-fits (c .before .args .n) (omega (arith, c .if1 .left)))
 
--- src/lib.rt:20:1
 returns-2 : tie.Need-returns-2
 returns-2 c = (size-is (c .before .args .n) (omega (arith, c .if1 .left)), omega (arith, size-fits (c .before .args .n) (omega (arith, c .if1 .left))))
 

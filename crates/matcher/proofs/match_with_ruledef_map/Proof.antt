@@ -2,19 +2,13 @@ use Rattle.matcher.proofs.Promised.{lookup-reads, lookup-visits, lookup
 use borrow.Author.Needs.{needs}
 use Rattle.matcher.proofs.match_with_ruledef_map.Statement.{statement}
 use Rattle.matcher.proofs.match_with_ruledef_map.Tie as tie
-use Rattle.matcher.proofs.match_with_ruledef_map.Reads as reads
-use Rattle.matcher.proofs.match_with_ruledef_map.Lts as lts
-use Rattle.matcher.proofs.call.Reads as call-reads
 
--- src/lib.rt:229:5
 call-requires : tie.Need-call-requires
 call-requires c κs = search needs
 
--- src/lib.rt:224:1
 same-length : tie.Need-same-length
 same-length c = search needs
 
--- src/lib.rt:224:1
 returns : tie.Need-returns
 returns c = (
   search needs,

@@ -6,9 +6,6 @@ use Rattle.places.specs.Places.{Placed}
 use Rattle.places.proofs.Words.{placed-none, placed-more, placed-fewer}
 use Rattle.places.proofs.place_rules.Statement.{statement}
 use Rattle.places.proofs.place_rules.Tie as tie
-use Rattle.places.proofs.place_rules.Reads as reads
-use Rattle.places.proofs.place_rules.Lts as lts
-use Rattle.places.proofs.place_rule.Reads as place-rule-reads
 
 abbrev Inv-loop : tie.InvT-loop
 Inv-loop table starts rules count places₀ i₀ places i = Placed table places rules i
@@ -16,39 +13,30 @@ Inv-loop table starts rules count places₀ i₀ places i = Placed table places 
 abbrev μ-loop : tie.MeasureT-loop
 μ-loop table starts rules count places₀ i₀ places i = count - i
 
--- src/lib.rt:48:5
 loop-holds : tie.Need-loop-holds Inv-loop μ-loop
 loop-holds c = placed-none (c .before .before .before .before .pre .sized)
 
--- src/lib.rt:49:20
 mul-rule : tie.Need-mul-rule Inv-loop μ-loop
 mul-rule c = omega (arith, c .loop-test .taken, c .before .before .before .before .before .before .pre .fits)
 
--- src/lib.rt:49:20
 shared-slice-read-rule : tie.Need-shared-slice-read-rule Inv-loop μ-loop
 shared-slice-read-rule c = omega (arith, c .before .loop-test .taken, c .before .before .before .before .before .before .before .pre .fits)
 
--- src/lib.rt:50:9
 add-i : tie.Need-add-i Inv-loop μ-loop
 add-i c = omega (arith, c .before .loop-test .taken)
 
--- src/lib.rt:51:9
 place-rule-requires : tie.Need-place-rule-requires Inv-loop μ-loop
 place-rule-requires c κs = (c .before .before .before .before .before .before .before .before .pre .table, (c .before .before .before .before .before .before .before .before .pre .begins, (c .before .before .before .before .before .before .before .before .pre .below _ (c .before .before .loop-test .taken), c .before .before .before .loop .inv .sized)))
 
--- src/lib.rt:48:5
 loop-less : tie.Need-loop-less Inv-loop μ-loop
 loop-less c = omega (arith, c .before .before .before .before .before .loop-test .taken)
 
--- src/lib.rt:48:5
 loop-again : tie.Need-loop-again Inv-loop μ-loop
 loop-again c = placed-more (c .before .before .before .before .before .before .loop .inv) _ refl _ (c .before .before .place-rule .ensures) (omega (arith, c .before .before .place-rule .kept))
 
--- src/lib.rt:43:1
 same-length : tie.Need-same-length Inv-loop μ-loop
 same-length c = omega (arith, c .before .loop .inv .sized, c .before .before .before .before .before .before .pre .sized)
 
--- src/lib.rt:43:1
 returns : tie.Need-returns Inv-loop μ-loop
 returns c = placed-fewer _ (c .before .loop .inv) (omega (arith, c .loop-test .left))
 

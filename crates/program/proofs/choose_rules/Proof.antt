@@ -4,19 +4,13 @@ use Rattle.program.proofs.Choosing.{scan-chosen, lookup-chosen}
 use borrow.Author.Needs.{needs}
 use Rattle.program.proofs.choose_rules.Statement.{statement}
 use Rattle.program.proofs.choose_rules.Tie as tie
-use Rattle.program.proofs.choose_rules.Reads as reads
-use Rattle.program.proofs.choose_rules.Lts as lts
-use Rattle.prefix_order.proofs.find_rules.Reads as find-rules-reads
 
--- src/lib.rt:114:24
 enum-told : tie.Need-enum-told
 enum-told c = search needs
 
--- src/lib.rt:115:77
 enum-told-2 : tie.Need-enum-told-2
 enum-told-2 c = search needs
 
--- src/lib.rt:115:26
 find-rules-requires : tie.Need-find-rules-requires
 find-rules-requires c κs =
     record {
@@ -27,15 +21,12 @@ find-rules-requires c κs =
       room = c .before .before .before .before .before .before .before .pre .1 .1 .room;
     }
 
--- src/lib.rt:100:1
 returns : tie.Need-returns
 returns c = scan-chosen (c .before .before .before .before .before .before .pre .1 .1) (c .enum-told .given .1)
 
--- src/lib.rt:100:1
 same-length : tie.Need-same-length
 same-length c = search needs
 
--- src/lib.rt:100:1
 returns-2 : tie.Need-returns-2
 returns-2 c = lookup-chosen (c .before .before .before .before .before .before .before .before .before .before .pre .1 .1) (c .before .before .before .before .enum-told2 .given .1) (c .before .before .find-rules .ensures .0) (c .before .before .find-rules .ensures .1 .1) (omega (arith, c .before .before .find-rules .kept))
 

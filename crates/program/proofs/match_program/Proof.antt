@@ -1,25 +1,18 @@
 -- `program::match_program` meets its contract.
-use Rattle.program.proofs.Preparing.{scan-reads}
+use Rattle.program.proofs.Promised.{scan-reads}
 use borrow.Author.Needs.{needs}
 use Rattle.program.proofs.match_program.Statement.{statement}
 use Rattle.program.proofs.match_program.Tie as tie
-use Rattle.program.proofs.match_program.Reads as reads
-use Rattle.program.proofs.match_program.Lts as lts
-use Rattle.program.proofs.run_program.Reads as run-program-reads
 
--- src/lib.rt:277:5
 run-program-requires : tie.Need-run-program-requires
 run-program-requires c κs = search needs
 
--- src/lib.rt:265:1
 same-length : tie.Need-same-length
 same-length c = search needs
 
--- src/lib.rt:265:1
 same-length-2 : tie.Need-same-length-2
 same-length-2 c = search needs
 
--- src/lib.rt:265:1
 returns : tie.Need-returns
 returns c = (c .before .before .before .before .run-program .ensures, scan-reads _ _ _ _ _ _ _ _ (c .before .before .before .before .run-program .ensures))
 

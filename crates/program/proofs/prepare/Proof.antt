@@ -7,60 +7,43 @@ use Rattle.program.proofs.Preparing.{place-asked, order-asked, scan-rea
 use borrow.Author.Needs.{needs}
 use Rattle.program.proofs.prepare.Statement.{statement}
 use Rattle.program.proofs.prepare.Tie as tie
-use Rattle.program.proofs.prepare.Reads as reads
-use Rattle.program.proofs.prepare.Lts as lts
-use Rattle.places.proofs.place_rules.Reads as place-rules-reads
-use Rattle.prefix_order.proofs.order_rules.Reads as order-rules-reads
-use Rattle.ruledef_map.proofs.top_rules.Reads as top-rules-reads
 
--- src/lib.rt:87:9
 top-rules-requires : tie.Need-top-rules-requires
 top-rules-requires c κs = search needs
 
--- src/lib.rt:88:5
 place-rules-requires : tie.Need-place-rules-requires
 place-rules-requires c κs = place-asked _ _ _ _ (c .before .before .before .before .before .before .before .before .before .before .before .pre .0) (c .before .before .before .before .before .before .before .before .before .before .before .pre .1 .0) (tops-listed _ [] _ _ _ (c .before .before .before .before .before .before .before .before .before .before .before .pre .0) (c .before .before .before .before .before .before .before .before .before .before .before .pre .1 .1 .1 .1) (c .before .before .before .before .top-rules .ensures) .0) (tops-listed _ [] _ _ _ (c .before .before .before .before .before .before .before .before .before .before .before .pre .0) (c .before .before .before .before .before .before .before .before .before .before .before .pre .1 .1 .1 .1) (c .before .before .before .before .top-rules .ensures) .1) (omega (arith, c .before .before .before .before .top-rules .kept, c .before .before .before .before .before .before .before .before .before .before .before .pre .1 .1 .1 .1)) _ (c .before .before .before .before .before .before .before .before .before .before .before .pre .1 .1 .0)
 
 enum-told : tie.Need-enum-told
 enum-told c = search needs
 
--- src/lib.rt:92:17
 enum-told-2 : tie.Need-enum-told-2
 enum-told-2 c = search needs
 
--- src/lib.rt:93:74
 slice-aggregate-order-rules : tie.Need-slice-aggregate-order-rules
 slice-aggregate-order-rules c = search needs
 
--- src/lib.rt:93:13
 order-rules-requires : tie.Need-order-rules-requires
 order-rules-requires c κs = order-asked _ _ _ _ (c .before .before .before .before .before .before .before .before .before .before .before .before .before .before .before .before .before .before .before .before .pre .0) (c .before .before .before .before .before .before .before .before .before .before .before .before .before .before .before .before .before .before .before .before .pre .1 .0) (tops-listed _ [] _ _ _ (c .before .before .before .before .before .before .before .before .before .before .before .before .before .before .before .before .before .before .before .before .pre .0) (c .before .before .before .before .before .before .before .before .before .before .before .before .before .before .before .before .before .before .before .before .pre .1 .1 .1 .1) (c .before .before .before .before .before .before .before .before .before .before .before .before .before .top-rules .ensures) .0) (tops-listed _ [] _ _ _ (c .before .before .before .before .before .before .before .before .before .before .before .before .before .before .before .before .before .before .before .before .pre .0) (c .before .before .before .before .before .before .before .before .before .before .before .before .before .before .before .before .before .before .before .before .pre .1 .1 .1 .1) (c .before .before .before .before .before .before .before .before .before .before .before .before .before .top-rules .ensures) .1) (omega (arith, c .before .before .before .before .before .before .before .before .before .before .before .before .before .top-rules .kept, c .before .before .before .before .before .before .before .before .before .before .before .before .before .before .before .before .before .before .before .before .pre .1 .1 .1 .1)) _ (c .before .before .before .before .before .before .before .before .place-rules .ensures) _ _ (c .before .before .before .before .before .before .before .before .before .before .before .before .before .before .before .before .before .before .before .before .pre .1 .1 .1 .0) refl
 
--- src/lib.rt:72:1
 same-length : tie.Need-same-length
 same-length c = search needs
 
--- src/lib.rt:72:1
 same-length-2 : tie.Need-same-length-2
 same-length-2 c = search needs
 
--- src/lib.rt:72:1
 returns : tie.Need-returns
 returns c = scan-ready _ _ _ _ (c .before .before .before .before .before .before .before .before .before .before .before .before .before .before .before .before .pre .0) (c .before .before .before .before .before .before .before .before .before .before .before .before .before .before .before .before .pre .1 .0) (tops-listed _ [] _ _ _ (c .before .before .before .before .before .before .before .before .before .before .before .before .before .before .before .before .pre .0) (c .before .before .before .before .before .before .before .before .before .before .before .before .before .before .before .before .pre .1 .1 .1 .1) (c .before .before .before .before .before .before .before .before .before .top-rules .ensures) .0) (tops-listed _ [] _ _ _ (c .before .before .before .before .before .before .before .before .before .before .before .before .before .before .before .before .pre .0) (c .before .before .before .before .before .before .before .before .before .before .before .before .before .before .before .before .pre .1 .1 .1 .1) (c .before .before .before .before .before .before .before .before .before .top-rules .ensures) .1) (omega (arith, c .before .before .before .before .before .before .before .before .before .top-rules .kept, c .before .before .before .before .before .before .before .before .before .before .before .before .before .before .before .before .pre .1 .1 .1 .1)) _ (c .before .before .before .before .place-rules .ensures) _ _ (c .before .before .before .before .before .before .before .before .before .before .before .before .before .before .before .before .pre .1 .1 .1 .0) (c .enum-told .given .1)
 
--- src/lib.rt:72:1
 same-length-3 : tie.Need-same-length-3
 same-length-3 c = search needs
 
--- src/lib.rt:72:1
 same-length-4 : tie.Need-same-length-4
 same-length-4 c = search needs
 
--- src/lib.rt:72:1
 same-length-5 : tie.Need-same-length-5
 same-length-5 c = search needs
 
--- src/lib.rt:72:1
 returns-2 : tie.Need-returns-2
 returns-2 c = lookup-ready _ _ _ _ (c .before .before .before .before .before .before .before .before .before .before .before .before .before .before .before .before .before .before .before .before .before .before .before .before .pre .0) (c .before .before .before .before .before .before .before .before .before .before .before .before .before .before .before .before .before .before .before .before .before .before .before .before .pre .1 .0) (tops-listed _ [] _ _ _ (c .before .before .before .before .before .before .before .before .before .before .before .before .before .before .before .before .before .before .before .before .before .before .before .before .pre .0) (c .before .before .before .before .before .before .before .before .before .before .before .before .before .before .before .before .before .before .before .before .before .before .before .before .pre .1 .1 .1 .1) (c .before .before .before .before .before .before .before .before .before .before .before .before .before .before .before .before .before .top-rules .ensures) .0) (tops-listed _ [] _ _ _ (c .before .before .before .before .before .before .before .before .before .before .before .before .before .before .before .before .before .before .before .before .before .before .before .before .pre .0) (c .before .before .before .before .before .before .before .before .before .before .before .before .before .before .before .before .before .before .before .before .before .before .before .before .pre .1 .1 .1 .1) (c .before .before .before .before .before .before .before .before .before .before .before .before .before .before .before .before .before .top-rules .ensures) .1) (omega (arith, c .before .before .before .before .before .before .before .before .before .before .before .before .before .before .before .before .before .top-rules .kept, c .before .before .before .before .before .before .before .before .before .before .before .before .before .before .before .before .before .before .before .before .before .before .before .before .pre .1 .1 .1 .1)) _ (c .before .before .before .before .before .before .before .before .before .before .before .before .place-rules .ensures) _ _ (omega (arith, c .before .before .before .order-rules .kept, c .before .before .before .before .before .before .before .before .before .before .before .before .before .before .before .before .before .before .before .before .before .before .before .before .pre .1 .1 .1 .0)) (c .before .before .before .order-rules .ensures)
 

@@ -1,53 +1,38 @@
 -- `program::run_line` meets its contract.
-use native.Mathlib.Omega.{arith}
-use Rattle.trials.proofs.Telling.{accepted-by}
+use Rattle.trials.proofs.Checks.{accepted-by}
 use Rattle.trials.proofs.Ordered.{line-refused, line-told}
 use Rattle.program.proofs.Choosing.{read-asked}
 use borrow.Author.Needs.{needs}
 use Rattle.program.proofs.run_line.Statement.{statement}
 use Rattle.program.proofs.run_line.Tie as tie
-use Rattle.program.proofs.run_line.Reads as reads
-use Rattle.program.proofs.run_line.Lts as lts
-use Rattle.program.proofs.choose_rules.Reads as choose-rules-reads
-use Rattle.trials.proofs.check.Reads as check-reads
-use Rattle.trials.proofs.read_line.Reads as read-line-reads
 
--- src/lib.rt:110:9
 check-requires : tie.Need-check-requires
 check-requires c κs = search needs
 
--- src/lib.rt:112:22
 enum-known-checked : tie.Need-enum-known-checked
 enum-known-checked c = search needs
 
--- src/lib.rt:113:13
 returns : tie.Need-returns
 returns c = (line-refused (c .before .before .before .before .before .before .before .before .before .before .before .before .before .args .how) _ _ _ _ _ (c .before .before .before .before .before .before .before .before .before .before .before .before .before .pre .0 .prepared .table) (c .before .before .before .check .ensures) (c .before .checked .given .1), c .before .before .before .before .before .before .before .before .before .before .before .before .before .pre .0 .ordered)
 
 enum-told : tie.Need-enum-told
 enum-told c = search needs
 
--- src/lib.rt:117:9
 choose-rules-requires : tie.Need-choose-rules-requires
-choose-rules-requires c κs = (c .before .before .before .before .before .before .before .before .before .before .before .before .before .pre .0 .prepared .table, (accepted-by (c .before .before .before .check .ensures) (c .before .enum-told .given .1) .bytes, c .before .before .before .before .before .before .before .before .before .before .before .before .before .pre .0 .ordered))
+choose-rules-requires c κs = (c .before .before .before .before .before .before .before .before .before .before .before .before .before .pre .0 .prepared .table, (accepted-by _ _ _ (c .before .before .before .check .ensures) (c .before .enum-told .given .1) .bytes, c .before .before .before .before .before .before .before .before .before .before .before .before .before .pre .0 .ordered))
 
--- src/lib.rt:118:5
 read-line-requires : tie.Need-read-line-requires
-read-line-requires c κs = read-asked (c .before .before .before .before .before .before .before .before .before .before .before .before .before .before .before .before .before .before .before .pre .0 .prepared) (accepted-by (c .before .before .before .before .before .before .before .before .before .check .ensures) (c .before .before .before .before .before .before .before .enum-told .given .1)) (c .before .before .before .before .before .choose-rules .ensures) (c .before .before .before .before .before .before .before .before .before .before .before .before .before .before .before .before .before .before .before .pre .1)
+read-line-requires c κs = read-asked (c .before .before .before .before .before .before .before .before .before .before .before .before .before .before .before .before .before .before .before .pre .0 .prepared) (accepted-by _ _ _ (c .before .before .before .before .before .before .before .before .before .check .ensures) (c .before .before .before .before .before .before .before .enum-told .given .1)) (c .before .before .before .before .before .choose-rules .ensures) (c .before .before .before .before .before .before .before .before .before .before .before .before .before .before .before .before .before .before .before .pre .1)
 
--- src/lib.rt:91:1
 same-length : tie.Need-same-length
 same-length c = search needs
 
--- src/lib.rt:91:1
 same-length-2 : tie.Need-same-length-2
 same-length-2 c = search needs
 
--- src/lib.rt:91:1
 same-length-3 : tie.Need-same-length-3
 same-length-3 c = search needs
 
--- src/lib.rt:91:1
 returns-2 : tie.Need-returns-2
 returns-2 c = (line-told (c .before .before .before .before .before .before .before .before .before .before .before .before .before .before .before .before .before .before .before .before .before .before .before .before .args .how) _ _ _ _ _ (c .before .before .before .before .before .before .before .before .before .before .before .before .before .before .before .before .before .before .before .before .before .before .before .before .pre .0 .prepared .table) _ _ (c .before .before .before .before .before .before .before .before .before .before .choose-rules .ensures .rules-are) (c .before .before .before .before .read-line .ensures), c .before .before .before .before .before .before .before .before .before .before .choose-rules .ensures .again)
 

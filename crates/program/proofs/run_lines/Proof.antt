@@ -7,11 +7,6 @@ use Rattle.program.proofs.Running.{Turn, turn-first, turn-more, row-wit
 use borrow.Author.Needs.{needs}
 use Rattle.program.proofs.run_lines.Statement.{statement}
 use Rattle.program.proofs.run_lines.Tie as tie
-use Rattle.program.proofs.run_lines.Reads as reads
-use Rattle.program.proofs.run_lines.Lts as lts
-use Rattle.lines.proofs.sheet_size.Reads as sheet-size-reads
-use Rattle.program.proofs.row_of.Reads as row-of-reads
-use Rattle.program.proofs.run_line.Reads as run-line-reads
 
 abbrev Inv-loop : tie.InvT-loop
 Inv-loop table text ends sheets budgets how starts places order tops rules₀ store₀ rows₀ answers₀ from₀ sheet₀ used₀ i₀ rules store rows answers from sheet used i = Turn how table text ends sheets budgets order answers₀ tops from sheet used i rules store rows answers
@@ -19,151 +14,114 @@ Inv-loop table text ends sheets budgets how starts places order tops rules₀ st
 abbrev μ-loop : tie.MeasureT-loop
 μ-loop table text ends sheets budgets how starts places order tops rules₀ store₀ rows₀ answers₀ from₀ sheet₀ used₀ i₀ rules store rows answers from sheet used i = length ends - i
 
--- src/lib.rt:159:5
 loop-holds : tie.Need-loop-holds Inv-loop μ-loop
 loop-holds c = turn-first (c .before .before .before .before .before .before .before .before .before .before .before .before .pre .1 .1) (c .before .before .before .before .before .before .before .before .before .before .before .before .pre .0 .ordered) (c .before .before .before .before .before .before .before .before .before .before .before .before .pre .1 .0)
 
--- src/lib.rt:160:19
 mul-end : tie.Need-mul-end Inv-loop μ-loop
 mul-end c = omega (arith, c .loop-test .taken)
 
--- src/lib.rt:160:19
 shared-slice-read-end : tie.Need-shared-slice-read-end Inv-loop μ-loop
 shared-slice-read-end c = c .before .loop-test .taken
 
--- src/lib.rt:160:19
 cast-end : tie.Need-cast-end Inv-loop μ-loop
 cast-end c = omega (arith, c .shared-slice-known9 .given (c .before .before .loop .i))
 
--- src/lib.rt:161:22
 mul-budget : tie.Need-mul-budget Inv-loop μ-loop
 mul-budget c = omega (arith, c .before .loop-test .taken)
 
--- src/lib.rt:161:22
 shared-slice-read-budget : tie.Need-shared-slice-read-budget Inv-loop μ-loop
 shared-slice-read-budget c = omega (arith, c .before .before .loop-test .taken, c .before .before .before .loop .inv .lent)
 
--- src/lib.rt:162:19
 mul-row : tie.Need-mul-row Inv-loop μ-loop
 mul-row c = omega (arith, c .before .before .loop-test .taken, c .before .before .before .loop .inv .few)
 
--- src/lib.rt:163:9
 add-i : tie.Need-add-i Inv-loop μ-loop
 add-i c = omega (arith, c .before .before .loop-test .taken)
 
--- src/lib.rt:164:46
 sub-sheet-size : tie.Need-sub-sheet-size Inv-loop μ-loop
 sub-sheet-size c = ends-after _ _ _ _ _ (c .before .before .before .loop .inv .running) (c .before .before .loop-test .taken) _ refl
 
--- src/lib.rt:164:28
 sheet-size-requires : tie.Need-sheet-size-requires Inv-loop μ-loop
 sheet-size-requires c κs = search needs
 
--- src/lib.rt:164:20
 add-next : tie.Need-add-next Inv-loop μ-loop
 add-next c = omega (arith, sheet-within _ _ _ _ _ (c .before .before .before .before .loop .inv .running) (c .before .before .before .loop-test .taken) _ refl _ (c .sheet-size .ensures .0), c .sheet-size .ensures .1, c .before .before .before .before .before .before .before .before .before .before .before .before .before .before .before .before .before .fits)
 
--- src/lib.rt:167:13
 sub-run-line : tie.Need-sub-run-line Inv-loop μ-loop
 sub-run-line c = ends-after _ _ _ _ _ (c .before .before .before .before .loop .inv .running) (c .before .before .before .loop-test .taken) _ refl
 
--- src/lib.rt:167:13
 part-run-line-start : tie.Need-part-run-line-start Inv-loop μ-loop
 part-run-line-start c = ends-after _ _ _ _ _ (c .before .before .before .before .loop .inv .running) (c .before .before .before .loop-test .taken) _ refl
 
--- src/lib.rt:167:13
 part-run-line-end : tie.Need-part-run-line-end Inv-loop μ-loop
 part-run-line-end c = ends-within _ _ _ _ _ (c .before .before .before .before .loop .inv .running) (c .before .before .before .loop-test .taken) _ refl
 
--- src/lib.rt:168:13
 sub-run-line-2 : tie.Need-sub-run-line-2 Inv-loop μ-loop
 sub-run-line-2 c = omega arith
 
--- src/lib.rt:168:13
 part-run-line-start-2 : tie.Need-part-run-line-start-2 Inv-loop μ-loop
 part-run-line-start-2 c = omega arith
 
--- src/lib.rt:168:13
 part-run-line-end-2 : tie.Need-part-run-line-end-2 Inv-loop μ-loop
 part-run-line-end-2 c = sheet-within _ _ _ _ _ (c .before .before .before .before .before .loop .inv .running) (c .before .before .before .before .loop-test .taken) _ refl _ (c .before .sheet-size .ensures .0)
 
--- src/lib.rt:177:13
 mul-run-line : tie.Need-mul-run-line Inv-loop μ-loop
 mul-run-line c = omega (arith, used-small (c .before .before .before .before .before .before .before .before .loop .inv) (c .before .before .before .before .before .before .before .loop-test .taken))
 
--- src/lib.rt:177:13
 sub-run-line-3 : tie.Need-sub-run-line-3 Inv-loop μ-loop
 sub-run-line-3 c = c .before .before .before .before .before .before .before .before .loop .inv .running .room
 
--- src/lib.rt:177:13
 part-run-line-start-3 : tie.Need-part-run-line-start-3 Inv-loop μ-loop
 part-run-line-start-3 c = c .before .before .before .before .before .before .before .before .loop .inv .running .room
 
--- src/lib.rt:177:13
 part-run-line-end-3 : tie.Need-part-run-line-end-3 Inv-loop μ-loop
 part-run-line-end-3 c = omega arith
 
--- src/lib.rt:165:13
 run-line-requires : tie.Need-run-line-requires Inv-loop μ-loop
 run-line-requires c κs = (record { prepared = c .before .before .before .before .before .before .before .before .before .before .before .before .before .before .before .before .before .before .before .before .before .before .pre .0 .prepared; ordered = c .before .before .before .before .before .before .before .before .before .loop .inv .ordered }, c .before .before .before .before .before .before .before .before .before .loop .inv .stored)
 
--- src/lib.rt:179:13
 row-of-requires : tie.Need-row-of-requires Inv-loop μ-loop
 row-of-requires c κs = search needs
 
--- src/lib.rt:180:9
+add-after : tie.Need-add-after Inv-loop μ-loop
+add-after c = omega (arith, used-small (c .before .before .before .before .before .before .before .before .before .before .before .before .before .before .before .before .before .before .loop .inv) (c .before .before .before .before .before .before .before .before .before .before .before .before .before .before .before .before .before .loop-test .taken), words-small (c .before .before .before .before .before .before .before .before .before .before .before .before .before .before .before .before .before .before .loop .inv) (c .before .before .before .before .before .before .before .before .before .before .before .before .before .before .before .before .before .loop-test .taken) _ refl _ (c .before .before .before .before .before .before .before .before .before .before .before .before .before .before .sheet-size .ensures .0) _ _ (c .before .before .before .before .before .before .before .before .run-line .ensures .0) _ (c .before .row-of .ensures))
+
 mul-rows : tie.Need-mul-rows Inv-loop μ-loop
-mul-rows c = omega (arith, c .before .before .before .before .before .before .before .before .before .before .before .before .before .before .before .before .loop-test .taken, c .before .before .before .before .before .before .before .before .before .before .before .before .before .before .before .before .before .loop .inv .few)
+mul-rows c = omega (arith, c .before .before .before .before .before .before .before .before .before .before .before .before .before .before .before .before .before .loop-test .taken, c .before .before .before .before .before .before .before .before .before .before .before .before .before .before .before .before .before .before .loop .inv .few)
 
--- src/lib.rt:180:9
 slice-write-rows : tie.Need-slice-write-rows Inv-loop μ-loop
-slice-write-rows c = omega (arith, row-within (c .before .before .before .before .before .before .before .before .before .before .before .before .before .before .before .before .before .loop .inv) (c .before .before .before .before .before .before .before .before .before .before .before .before .before .before .before .before .loop-test .taken))
+slice-write-rows c = omega (arith, row-within (c .before .before .before .before .before .before .before .before .before .before .before .before .before .before .before .before .before .before .loop .inv) (c .before .before .before .before .before .before .before .before .before .before .before .before .before .before .before .before .before .loop-test .taken))
 
--- src/lib.rt:181:25
 cast-rows : tie.Need-cast-rows Inv-loop μ-loop
-cast-rows c = omega (arith, used-small (c .before .before .before .before .before .before .before .before .before .before .before .before .before .before .before .before .before .loop .inv) (c .before .before .before .before .before .before .before .before .before .before .before .before .before .before .before .before .loop-test .taken))
+cast-rows c = omega (arith, used-small (c .before .before .before .before .before .before .before .before .before .before .before .before .before .before .before .before .before .before .loop .inv) (c .before .before .before .before .before .before .before .before .before .before .before .before .before .before .before .before .before .loop-test .taken), words-small (c .before .before .before .before .before .before .before .before .before .before .before .before .before .before .before .before .before .before .loop .inv) (c .before .before .before .before .before .before .before .before .before .before .before .before .before .before .before .before .before .loop-test .taken) _ refl _ (c .before .before .before .before .before .before .before .before .before .before .before .before .before .before .sheet-size .ensures .0) _ _ (c .before .before .before .before .before .before .before .before .run-line .ensures .0) _ (c .before .row-of .ensures))
 
--- src/lib.rt:181:14
 add-rows : tie.Need-add-rows Inv-loop μ-loop
-add-rows c = omega (arith, c .before .before .before .before .before .before .before .before .before .before .before .before .before .before .before .before .loop-test .taken, c .before .before .before .before .before .before .before .before .before .before .before .before .before .before .before .before .before .loop .inv .few)
+add-rows c = omega (arith, c .before .before .before .before .before .before .before .before .before .before .before .before .before .before .before .before .before .loop-test .taken, c .before .before .before .before .before .before .before .before .before .before .before .before .before .before .before .before .before .before .loop .inv .few)
 
--- src/lib.rt:181:9
 mul-rows-2 : tie.Need-mul-rows-2 Inv-loop μ-loop
-mul-rows-2 c = omega (arith, c .before .before .before .before .before .before .before .before .before .before .before .before .before .before .before .before .loop-test .taken, c .before .before .before .before .before .before .before .before .before .before .before .before .before .before .before .before .before .loop .inv .few)
+mul-rows-2 c = omega (arith, c .before .before .before .before .before .before .before .before .before .before .before .before .before .before .before .before .before .loop-test .taken, c .before .before .before .before .before .before .before .before .before .before .before .before .before .before .before .before .before .before .loop .inv .few)
 
--- src/lib.rt:181:9
 slice-write-rows-2 : tie.Need-slice-write-rows-2 Inv-loop μ-loop
-slice-write-rows-2 c = search (needs, row-within (c .before .before .before .before .before .before .before .before .before .before .before .before .before .before .before .before .before .loop .inv) (c .before .before .before .before .before .before .before .before .before .before .before .before .before .before .before .before .loop-test .taken))
+slice-write-rows-2 c = search (needs, row-within (c .before .before .before .before .before .before .before .before .before .before .before .before .before .before .before .before .before .before .loop .inv) (c .before .before .before .before .before .before .before .before .before .before .before .before .before .before .before .before .before .loop-test .taken))
 
--- src/lib.rt:182:9
-add-used : tie.Need-add-used Inv-loop μ-loop
-add-used c = omega (arith, used-small (c .before .before .before .before .before .before .before .before .before .before .before .before .before .before .before .before .before .before .loop .inv) (c .before .before .before .before .before .before .before .before .before .before .before .before .before .before .before .before .before .loop-test .taken), words-small (c .before .before .before .before .before .before .before .before .before .before .before .before .before .before .before .before .before .before .loop .inv) (c .before .before .before .before .before .before .before .before .before .before .before .before .before .before .before .before .before .loop-test .taken) _ refl _ (c .before .before .before .before .before .before .before .before .before .before .before .before .before .before .sheet-size .ensures .0) _ _ (c .before .before .before .before .before .before .before .before .run-line .ensures .0) _ (c .before .row-of .ensures))
-
--- src/lib.rt:159:5
 loop-less : tie.Need-loop-less Inv-loop μ-loop
 loop-less c = omega (arith, c .before .before .before .before .before .before .before .before .before .before .before .before .before .before .before .before .before .loop-test .taken)
 
--- src/lib.rt:159:5
 loop-again : tie.Need-loop-again Inv-loop μ-loop
 loop-again c = turn-more (c .before .before .before .before .before .before .before .before .before .before .before .before .before .before .before .before .before .before .loop .inv) (c .before .before .before .before .before .before .before .before .before .before .before .before .before .before .before .before .before .loop-test .taken) _ refl _ (c .before .before .before .before .before .before .before .before .before .before .before .before .before .before .sheet-size .ensures .0) _ _ (c .before .before .before .before .before .before .before .before .run-line .ensures .0) _ (c .before .row-of .ensures) _ _ _ (c .before .before .before .before .before .before .before .before .run-line .ensures .1) (omega (arith, c .before .before .before .before .before .before .before .before .run-line .kept)) refl
 
--- src/lib.rt:133:1
 same-length : tie.Need-same-length Inv-loop μ-loop
 same-length c = omega (arith, c .before .loop .inv .ordered .room, c .before .before .before .before .before .before .before .before .before .before .before .before .before .before .pre .0 .ordered .room)
 
--- src/lib.rt:133:1
 same-length-2 : tie.Need-same-length-2 Inv-loop μ-loop
 same-length-2 c = omega (arith, c .before .loop .inv .stored, c .before .before .before .before .before .before .before .before .before .before .before .before .before .before .pre .1 .0)
 
--- src/lib.rt:133:1
 same-length-3 : tie.Need-same-length-3 Inv-loop μ-loop
 same-length-3 c = omega (arith, c .before .loop .inv .long, rows-first (c .before .before .before .before .before .before .before .before .before .before .before .before .before .before .args .text .now) (c .before .before .before .before .before .before .before .before .before .before .before .before .before .before .args .ends .now) (c .before .before .before .before .before .before .before .before .before .before .before .before .before .before .args .sheets .now) (c .before .before .before .before .before .before .before .before .before .before .before .before .before .before .args .budgets .now) (c .before .before .before .before .before .before .before .before .before .before .before .before .before .before .args .rows .now) (c .before .before .before .before .before .before .before .before .before .before .before .before .before .before .pre .1 .1))
 
--- src/lib.rt:133:1
 same-length-4 : tie.Need-same-length-4 Inv-loop μ-loop
 same-length-4 c = c .before .loop .inv .whole
 
--- src/lib.rt:133:1
 returns : tie.Need-returns Inv-loop μ-loop
 returns c = (running-all _ _ _ _ _ (c .before .loop .inv .running) (c .loop-test .left) (c .before .loop .inv .long), used-few (c .before .loop .inv))
 
@@ -196,13 +154,13 @@ run-lines-spec =
     part-run-line-end-3
     run-line-requires
     row-of-requires
+    add-after
     mul-rows
     slice-write-rows
     cast-rows
     add-rows
     mul-rows-2
     slice-write-rows-2
-    add-used
     loop-less
     loop-again
     same-length

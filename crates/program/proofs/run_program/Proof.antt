@@ -7,91 +7,64 @@ use Rattle.runs.proofs.Wholes.{bad-table, bad-program, program-told}
 use borrow.Author.Needs.{needs}
 use Rattle.program.proofs.run_program.Statement.{statement}
 use Rattle.program.proofs.run_program.Tie as tie
-use Rattle.program.proofs.run_program.Reads as reads
-use Rattle.program.proofs.run_program.Lts as lts
-use Rattle.acceptance.proofs.check_table.Reads as check-table-reads
-use Rattle.defs.proofs.ruledef.ruleset_starts.Reads as ruleset-starts-reads
-use Rattle.lines.proofs.check_program.Reads as check-program-reads
-use Rattle.program.proofs.prepare.Reads as prepare-reads
-use Rattle.program.proofs.run_lines.Reads as run-lines-reads
 
--- src/lib.rt:231:9
 check-table-requires : tie.Need-check-table-requires
 check-table-requires c κs = search needs
 
--- src/lib.rt:232:9
 returns : tie.Need-returns
 returns c = bad-table (orderOf (c .before .before .before .before .before .before .before .before .before .args .how)) _ _ _ _ _ _ _ (refused (c .before .check-table .ensures) (c .if1 .taken))
 
--- src/lib.rt:234:9
 check-program-requires : tie.Need-check-program-requires
 check-program-requires c κs = search needs
 
--- src/lib.rt:235:9
 returns-2 : tie.Need-returns-2
 returns-2 c = bad-program (orderOf (c .before .before .before .before .before .before .before .before .before .before .before .args .how)) _ _ _ _ _ _ _ (passed (c .before .before .before .check-table .ensures) (c .before .before .if1 .left)) (refused (c .before .check-program .ensures) (c .if2 .taken))
 
--- src/lib.rt:237:18
 ruleset-starts-requires : tie.Need-ruleset-starts-requires
 ruleset-starts-requires c κs = search needs
 
--- src/lib.rt:241:36
 slice-aggregate-prepare : tie.Need-slice-aggregate-prepare
 slice-aggregate-prepare c = search needs
 
--- src/lib.rt:241:45
 slice-aggregate-prepare-2 : tie.Need-slice-aggregate-prepare-2
 slice-aggregate-prepare-2 c = search needs
 
--- src/lib.rt:241:58
 slice-aggregate-prepare-3 : tie.Need-slice-aggregate-prepare-3
 slice-aggregate-prepare-3 c = search needs
 
--- src/lib.rt:241:70
 slice-aggregate-prepare-4 : tie.Need-slice-aggregate-prepare-4
 slice-aggregate-prepare-4 c = search needs
 
--- src/lib.rt:241:9
 prepare-requires : tie.Need-prepare-requires
 prepare-requires c κs = (passed (c .before .before .before .before .before .before .before .before .check-table .ensures) (c .before .before .before .before .before .before .before .if1 .left), (c .before .before .before .before .ruleset-starts .ensures, (refl, (refl, refl))))
 
--- src/lib.rt:250:9
 slice-aggregate-run-lines : tie.Need-slice-aggregate-run-lines
 slice-aggregate-run-lines c = search needs
 
--- src/lib.rt:251:9
 slice-aggregate-run-lines-2 : tie.Need-slice-aggregate-run-lines-2
 slice-aggregate-run-lines-2 c = search needs
 
--- src/lib.rt:252:9
 slice-aggregate-run-lines-3 : tie.Need-slice-aggregate-run-lines-3
 slice-aggregate-run-lines-3 c = search needs
 
--- src/lib.rt:254:9
 slice-aggregate-run-lines-4 : tie.Need-slice-aggregate-run-lines-4
 slice-aggregate-run-lines-4 c = search needs
 
--- src/lib.rt:255:9
 slice-aggregate-run-lines-5 : tie.Need-slice-aggregate-run-lines-5
 slice-aggregate-run-lines-5 c = search needs
 
--- src/lib.rt:243:9
 run-lines-requires : tie.Need-run-lines-requires
 run-lines-requires c κs = (c .before .before .before .before .before .before .before .before .before .before .prepare .ensures, (refl, passed (c .before .before .before .before .before .before .before .before .before .before .before .before .before .before .before .before .before .check-program .ensures) (c .before .before .before .before .before .before .before .before .before .before .before .before .before .before .before .before .if2 .left)))
 
--- src/lib.rt:260:16
 cast-t45 : tie.Need-cast-t45
 cast-t45 c = omega (arith, c .before .before .before .before .before .before .run-lines .ensures .1)
 
--- src/lib.rt:219:1
 same-length : tie.Need-same-length
 same-length c = search needs
 
--- src/lib.rt:219:1
 same-length-2 : tie.Need-same-length-2
 same-length-2 c = search needs
 
--- src/lib.rt:219:1
 returns-3 : tie.Need-returns-3
 returns-3 c = program-told (orderOf (c .before .before .before .before .before .before .before .before .before .before .before .before .before .before .before .before .before .before .before .before .before .before .before .before .before .before .before .before .before .before .before .before .before .before .args .how)) _ _ _ _ _ _ _ (passed (c .before .before .before .before .before .before .before .before .before .before .before .before .before .before .before .before .before .before .before .before .before .before .before .before .before .before .check-table .ensures) (c .before .before .before .before .before .before .before .before .before .before .before .before .before .before .before .before .before .before .before .before .before .before .before .before .before .if1 .left)) (passed (c .before .before .before .before .before .before .before .before .before .before .before .before .before .before .before .before .before .before .before .before .before .before .before .before .check-program .ensures) (c .before .before .before .before .before .before .before .before .before .before .before .before .before .before .before .before .before .before .before .before .before .before .before .if2 .left)) (c .before .before .before .before .before .before .run-lines .ensures .0)
 

@@ -5,47 +5,34 @@ use Rattle.trials.proofs.Checks.{fault-small, line-good, line-bad, byte
 use borrow.Author.Needs.{needs}
 use Rattle.trials.proofs.check.Statement.{statement}
 use Rattle.trials.proofs.check.Tie as tie
-use Rattle.trials.proofs.check.Reads as reads
-use Rattle.trials.proofs.check.Lts as lts
-use Rattle.extents.proofs.check_sheet.Reads as check-sheet-reads
-use Rattle.line.proofs.check_line.Reads as check-line-reads
 
--- src/lib.rt:56:9
 check-line-requires : tie.Need-check-line-requires
 check-line-requires c κs = search needs
 
 enum-told : tie.Need-enum-told
 enum-told c = search needs
 
--- src/lib.rt:59:26
 enum-known-found : tie.Need-enum-known-found
 enum-known-found c = search needs
 
--- src/lib.rt:61:24
 cast-t6 : tie.Need-cast-t6
 cast-t6 c = omega (arith, fault-small _ _ (line-bad _ _ (c .before .before .before .check-line .ensures) (c .before .found .given .1)))
 
--- src/lib.rt:60:13
 returns : tie.Need-returns
 returns c = bytes-bad _ _ _ _ (line-bad _ _ (c .before .before .before .check-line .ensures) (c .before .found .given .1))
 
--- src/lib.rt:65:9
 check-sheet-requires : tie.Need-check-sheet-requires
 check-sheet-requires c κs = search needs
 
--- src/lib.rt:66:9
 returns-2 : tie.Need-returns-2
 returns-2 c = extents-bad _ _ _ (line-good _ _ (c .before .before .before .before .check-line .ensures) (c .before .before .enum-told .given .1)) (refused (c .before .check-sheet .ensures) (c .if1 .taken))
 
--- src/lib.rt:69:9
 returns-3 : tie.Need-returns-3
 returns-3 c = budget-none _ _ _ (line-good _ _ (c .before .before .before .before .before .check-line .ensures) (c .before .before .before .enum-told .given .1)) (passed (c .before .before .check-sheet .ensures) (c .before .if1 .left)) (c .if2 .taken)
 
--- src/lib.rt:72:9
 returns-4 : tie.Need-returns-4
 returns-4 c = budget-great _ _ _ (line-good _ _ (c .before .before .before .before .before .before .check-line .ensures) (c .before .before .before .before .enum-told .given .1)) (passed (c .before .before .before .check-sheet .ensures) (c .before .before .if1 .left)) (c .if3 .taken)
 
--- src/lib.rt:53:1
 returns-5 : tie.Need-returns-5
 returns-5 c = all-good _ _ _ (line-good _ _ (c .before .before .before .before .before .before .check-line .ensures) (c .before .before .before .before .enum-told .given .1)) (passed (c .before .before .before .check-sheet .ensures) (c .before .before .if1 .left)) (c .before .if2 .left) (c .if3 .left)
 

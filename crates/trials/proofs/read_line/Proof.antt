@@ -5,65 +5,46 @@ use Rattle.trials.proofs.Telling.{try-asked, listed-by, stopped-by, cal
 use borrow.Author.Needs.{needs}
 use Rattle.trials.proofs.read_line.Statement.{statement}
 use Rattle.trials.proofs.read_line.Tie as tie
-use Rattle.trials.proofs.read_line.Reads as reads
-use Rattle.trials.proofs.read_line.Lts as lts
-use Rattle.trials.proofs.stopped.Reads as stopped-reads
-use Rattle.trials.proofs.tell.Reads as tell-reads
-use Rattle.trials.proofs.try_rules.Reads as try-rules-reads
 
--- src/lib.rt:189:9
 try-rules-requires : tie.Need-try-rules-requires
 try-rules-requires c κs = try-asked (c .before .before .before .before .before .before .before .before .before .pre)
 
--- src/lib.rt:191:25
 enum-known-walked : tie.Need-enum-known-walked
 enum-known-walked c = search needs
 
--- src/lib.rt:191:53
 sub-stopped : tie.Need-sub-stopped
 sub-stopped c = call-within (c .before .before .before .before .before .before .before .before .before .before .before .before .before .before .before .pre) (c .before .walked .given .0 .0) (stopped-by (c .before .before .before .before .before .try-rules .ensures) (c .before .walked .given .1))
 
--- src/lib.rt:191:52
 cast-stopped : tie.Need-cast-stopped
 cast-stopped c = search needs
 
--- src/lib.rt:191:39
 stopped-requires : tie.Need-stopped-requires
 stopped-requires c κs = search needs
 
--- src/lib.rt:192:22
 enum-known-walked-2 : tie.Need-enum-known-walked-2
 enum-known-walked-2 c = search needs
 
--- src/lib.rt:197:14
 sub-tell : tie.Need-sub-tell
 sub-tell c = call-left (c .before .before .before .before .before .before .before .before .before .before .before .before .before .before .before .before .pre) (listed-by (c .before .before .before .before .before .before .try-rules .ensures) (c .before .before .walked2 .given .1))
 
--- src/lib.rt:197:13
 cast-tell : tie.Need-cast-tell
 cast-tell c = search needs
 
--- src/lib.rt:192:37
 tell-requires : tie.Need-tell-requires
 tell-requires c κs = call-asked (c .before .before .before .before .before .before .before .before .before .before .before .before .before .before .before .before .before .pre) (listed-by (c .before .before .before .before .before .before .before .try-rules .ensures) (c .before .before .before .walked2 .given .1)) (omega (arith, c .before .before .before .before .before .before .before .try-rules .kept, c .before .before .before .before .before .before .before .before .before .before .before .before .before .before .before .before .before .pre .sized))
 
--- src/lib.rt:173:1
 same-length : tie.Need-same-length
 same-length c = search needs
 
--- src/lib.rt:173:1
 returns : tie.Need-returns
 returns c = call-stopped (c .before .before .before .before .before .before .before .before .before .before .before .before .before .before .before .before .pre) (c .before .before .walked .given .0 .0) (stopped-by (c .before .before .before .before .before .before .try-rules .ensures) (c .before .before .walked .given .1)) (c .stopped .result) _ _ refl (c .stopped .ensures)
 
--- src/lib.rt:173:1
 same-length-2 : tie.Need-same-length-2
 same-length-2 c = search needs
 
--- src/lib.rt:173:1
 same-length-3 : tie.Need-same-length-3
 same-length-3 c = search needs
 
--- src/lib.rt:173:1
 returns-2 : tie.Need-returns-2
 returns-2 c = call-told (c .before .before .before .before .before .before .before .before .before .before .before .before .before .before .before .before .before .before .before .before .pre) (listed-by (c .before .before .before .before .before .before .before .before .before .before .try-rules .ensures) (c .before .before .before .before .before .before .walked2 .given .1)) _ _ _ refl (c .before .before .tell .ensures)
 

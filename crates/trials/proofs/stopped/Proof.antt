@@ -1,30 +1,22 @@
 use borrow.Author.Needs.{needs}
 use Rattle.trials.proofs.stopped.Statement.{statement}
 use Rattle.trials.proofs.stopped.Tie as tie
-use Rattle.trials.proofs.stopped.Reads as reads
-use Rattle.trials.proofs.stopped.Lts as lts
 
--- src/lib.rt:165:27
 enum-told : tie.Need-enum-told
 enum-told c = search needs
 
--- src/lib.rt:166:26
 enum-told-2 : tie.Need-enum-told-2
 enum-told-2 c = search needs
 
--- src/lib.rt:167:26
 enum-told-3 : tie.Need-enum-told-3
 enum-told-3 c = search needs
 
--- src/lib.rt:161:1
 returns : tie.Need-returns
 returns c = rw (c .enum-told .given .1)
 
--- src/lib.rt:161:1
 returns-2 : tie.Need-returns-2
 returns-2 c = rw (c .enum-told2 .given .1)
 
--- src/lib.rt:161:1
 returns-3 : tie.Need-returns-3
 returns-3 c = rw (c .enum-told3 .given .1)
 

@@ -7,11 +7,6 @@ use Rattle.trials.proofs.Tries.{TriesDid, tries-start, words-there, fie
 use borrow.Author.Needs.{needs}
 use Rattle.trials.proofs.try_rules.Statement.{statement}
 use Rattle.trials.proofs.try_rules.Tie as tie
-use Rattle.trials.proofs.try_rules.Reads as reads
-use Rattle.trials.proofs.try_rules.Lts as lts
-use Rattle.pool.proofs.Pool.new.Reads as Pool-new-reads
-use Rattle.syntax.proofs.walker.Walker.new.Reads as walker-Walker-new-reads
-use Rattle.walk.proofs.match_with_rule.Reads as match-with-rule-reads
 
 abbrev Inv-loop : tie.InvT-loop
 Inv-loop table line sheet starts places store₀ rules count visits left₀ has₀ i₀ store left has i = TriesDid table line sheet (take count rules) left₀ (has₀ .used) store₀ i left (has .used) store
@@ -19,131 +14,99 @@ Inv-loop table line sheet starts places store₀ rules count visits left₀ has�
 abbrev μ-loop : tie.MeasureT-loop
 μ-loop table line sheet starts places store₀ rules count visits left₀ has₀ i₀ store left has i = count - i
 
--- src/lib.rt:93:9
 new-requires : tie.Need-new-requires Inv-loop μ-loop
 new-requires c κs = search needs
 
--- src/lib.rt:95:5
 loop-holds : tie.Need-loop-holds Inv-loop μ-loop
 loop-holds c = tries-start (c .before .before .before .before .before .before .before .before .pre) _ (c .new .ensures)
 
--- src/lib.rt:96:35
 mul-at : tie.Need-mul-at Inv-loop μ-loop
 mul-at c = omega (arith, c .loop-test .taken, c .before .before .before .before .before .before .before .before .before .before .pre .fits)
 
--- src/lib.rt:96:35
 shared-slice-read-at : tie.Need-shared-slice-read-at Inv-loop μ-loop
 shared-slice-read-at c = omega (arith, c .before .loop-test .taken, c .before .before .before .before .before .before .before .before .before .before .before .pre .fits)
 
--- src/lib.rt:96:35
 cast-at : tie.Need-cast-at Inv-loop μ-loop
 cast-at c = omega (arith, words-there (c .before .before .before .before .before .before .before .before .before .before .before .pre) _ (c .before .before .loop .inv) (c .before .loop-test .taken) _ refl .0)
 
--- src/lib.rt:96:18
 mul-at-2 : tie.Need-mul-at-2 Inv-loop μ-loop
 mul-at-2 c = omega (arith, words-there (c .before .before .before .before .before .before .before .before .before .before .before .pre) _ (c .before .before .loop .inv) (c .before .loop-test .taken) _ refl .0)
 
--- src/lib.rt:97:9
 add-i : tie.Need-add-i Inv-loop μ-loop
 add-i c = omega (arith, c .before .loop-test .taken)
 
--- src/lib.rt:99:18
 mul-t22 : tie.Need-mul-t22 Inv-loop μ-loop
 mul-t22 c = omega (arith, words-there (c .before .before .before .before .before .before .before .before .before .before .before .pre) _ (c .before .before .loop .inv) (c .before .loop-test .taken) _ refl .0)
 
--- src/lib.rt:99:18
 shared-slice-read-t24 : tie.Need-shared-slice-read-t24 Inv-loop μ-loop
 shared-slice-read-t24 c = omega (arith, words-there (c .before .before .before .before .before .before .before .before .before .before .before .before .pre) _ (c .before .before .before .loop .inv) (c .before .before .loop-test .taken) _ refl .1)
 
--- src/lib.rt:99:18
 cast-t25 : tie.Need-cast-t25 Inv-loop μ-loop
 cast-t25 c = omega (arith, fields-small (c .before .before .before .before .before .before .before .before .before .before .before .before .pre) _ (c .before .before .before .loop .inv) (c .before .before .loop-test .taken) _ refl .0)
 
--- src/lib.rt:100:26
 add-t27 : tie.Need-add-t27 Inv-loop μ-loop
 add-t27 c = omega (arith, words-there (c .before .before .before .before .before .before .before .before .before .before .before .before .pre) _ (c .before .before .before .loop .inv) (c .before .before .loop-test .taken) _ refl .0)
 
--- src/lib.rt:100:19
 mul-t28 : tie.Need-mul-t28 Inv-loop μ-loop
 mul-t28 c = omega (arith, words-there (c .before .before .before .before .before .before .before .before .before .before .before .before .pre) _ (c .before .before .before .loop .inv) (c .before .before .loop-test .taken) _ refl .0)
 
--- src/lib.rt:100:19
 shared-slice-read-t30 : tie.Need-shared-slice-read-t30 Inv-loop μ-loop
 shared-slice-read-t30 c = omega (arith, words-there (c .before .before .before .before .before .before .before .before .before .before .before .before .before .pre) _ (c .before .before .before .before .loop .inv) (c .before .before .before .loop-test .taken) _ refl .1)
 
--- src/lib.rt:100:19
 cast-t31 : tie.Need-cast-t31 Inv-loop μ-loop
 cast-t31 c = omega (arith, fields-small (c .before .before .before .before .before .before .before .before .before .before .before .before .before .pre) _ (c .before .before .before .before .loop .inv) (c .before .before .before .loop-test .taken) _ refl .1)
 
--- src/lib.rt:101:24
 add-t32 : tie.Need-add-t32 Inv-loop μ-loop
 add-t32 c = omega (arith, words-there (c .before .before .before .before .before .before .before .before .before .before .before .before .before .pre) _ (c .before .before .before .before .loop .inv) (c .before .before .before .loop-test .taken) _ refl .0)
 
--- src/lib.rt:101:17
 mul-t33 : tie.Need-mul-t33 Inv-loop μ-loop
 mul-t33 c = omega (arith, words-there (c .before .before .before .before .before .before .before .before .before .before .before .before .before .pre) _ (c .before .before .before .before .loop .inv) (c .before .before .before .loop-test .taken) _ refl .0)
 
--- src/lib.rt:101:17
 shared-slice-read-t35 : tie.Need-shared-slice-read-t35 Inv-loop μ-loop
 shared-slice-read-t35 c = omega (arith, words-there (c .before .before .before .before .before .before .before .before .before .before .before .before .before .before .pre) _ (c .before .before .before .before .before .loop .inv) (c .before .before .before .before .loop-test .taken) _ refl .1)
 
--- src/lib.rt:101:17
 cast-t36 : tie.Need-cast-t36 Inv-loop μ-loop
 cast-t36 c = omega (arith, fields-small (c .before .before .before .before .before .before .before .before .before .before .before .before .before .before .pre) _ (c .before .before .before .before .before .loop .inv) (c .before .before .before .before .loop-test .taken) _ refl .2)
 
--- src/lib.rt:102:25
 add-t37 : tie.Need-add-t37 Inv-loop μ-loop
 add-t37 c = omega (arith, words-there (c .before .before .before .before .before .before .before .before .before .before .before .before .before .before .pre) _ (c .before .before .before .before .before .loop .inv) (c .before .before .before .before .loop-test .taken) _ refl .0)
 
--- src/lib.rt:102:18
 mul-t38 : tie.Need-mul-t38 Inv-loop μ-loop
 mul-t38 c = omega (arith, words-there (c .before .before .before .before .before .before .before .before .before .before .before .before .before .before .pre) _ (c .before .before .before .before .before .loop .inv) (c .before .before .before .before .loop-test .taken) _ refl .0)
 
--- src/lib.rt:102:18
 shared-slice-read-t40 : tie.Need-shared-slice-read-t40 Inv-loop μ-loop
 shared-slice-read-t40 c = omega (arith, words-there (c .before .before .before .before .before .before .before .before .before .before .before .before .before .before .before .pre) _ (c .before .before .before .before .before .before .loop .inv) (c .before .before .before .before .before .loop-test .taken) _ refl .1)
 
--- src/lib.rt:102:18
 cast-t41 : tie.Need-cast-t41 Inv-loop μ-loop
 cast-t41 c = omega (arith, fields-small (c .before .before .before .before .before .before .before .before .before .before .before .before .before .before .before .pre) _ (c .before .before .before .before .before .before .loop .inv) (c .before .before .before .before .before .loop-test .taken) _ refl .3)
 
--- src/lib.rt:106:13
 new-requires-2 : tie.Need-new-requires-2 Inv-loop μ-loop
 new-requires-2 c κs = search needs
 
--- src/lib.rt:107:13
 match-with-rule-requires : tie.Need-match-with-rule-requires Inv-loop μ-loop
 match-with-rule-requires c κs = try-ready (c .before .before .before .before .before .before .before .before .before .before .before .before .before .before .before .before .before .pre) _ (c .before .before .before .before .before .before .before .before .loop .inv) (c .before .before .before .before .before .before .before .loop-test .taken) _ refl _ (c .before .new2 .ensures .0) (c .before .new2 .ensures .1) _ refl
 
--- src/lib.rt:119:26
 enum-known-got : tie.Need-enum-known-got Inv-loop μ-loop
 enum-known-got c = search needs
 
--- src/lib.rt:95:5
 loop-less : tie.Need-loop-less Inv-loop μ-loop
 loop-less c = omega (arith, c .before .before .before .before .before .before .before .before .before .before .before .before .before .loop-test .taken)
 
--- src/lib.rt:95:5
 loop-again : tie.Need-loop-again Inv-loop μ-loop
 loop-again c = tries-again (c .before .before .before .before .before .before .before .before .before .before .before .before .before .before .before .before .before .before .before .before .before .before .before .pre) _ (c .before .before .before .before .before .before .before .before .before .before .before .before .before .before .loop .inv) (c .before .before .before .before .before .before .before .before .before .before .before .before .before .loop-test .taken) _ refl _ (c .before .before .before .before .before .before .before .new2 .ensures .0) (c .before .before .before .before .before .before .before .new2 .ensures .1) refl (c .before .before .before .before .before .match-with-rule .ensures) (c .before .got .given .1) (omega (arith, c .before .before .before .before .before .match-with-rule .kept, c .before .before .before .before .before .before .before .before .before .before .before .before .before .before .loop .inv .stored .sized))
 
--- src/lib.rt:123:29
 enum-known-got-2 : tie.Need-enum-known-got-2 Inv-loop μ-loop
 enum-known-got-2 c = search needs
 
--- src/lib.rt:124:17
 same-length : tie.Need-same-length Inv-loop μ-loop
 same-length c = omega (arith, c .before .before .before .before .before .match-with-rule .kept, c .before .before .before .before .before .before .before .before .before .before .before .before .before .before .loop .inv .stored .sized, c .before .before .before .before .before .before .before .before .before .before .before .before .before .before .before .before .before .before .before .before .before .before .before .pre .sized)
 
--- src/lib.rt:124:17
 returns : tie.Need-returns Inv-loop μ-loop
 returns c = tries-stop (c .before .before .before .before .before .before .before .before .before .before .before .before .before .before .before .before .before .before .before .before .before .before .before .pre) _ (c .before .before .before .before .before .before .before .before .before .before .before .before .before .before .loop .inv) (c .before .before .before .before .before .before .before .before .before .before .before .before .before .loop-test .taken) _ refl _ (c .before .before .before .before .before .before .before .new2 .ensures .0) (c .before .before .before .before .before .before .before .new2 .ensures .1) refl (c .before .before .before .before .before .match-with-rule .ensures) (c .before .got2 .given .1) (c .before .before .before .before .before .before .before .before .before .before .before .before .before .before .before .new .ensures)
 
--- src/lib.rt:78:1
 same-length-2 : tie.Need-same-length-2 Inv-loop μ-loop
 same-length-2 c = omega (arith, c .before .loop .inv .stored .sized, c .before .before .before .before .before .before .before .before .before .before .pre .sized)
 
--- src/lib.rt:78:1
 returns-2 : tie.Need-returns-2 Inv-loop μ-loop
 returns-2 c = tries-end (c .before .before .before .before .before .before .before .before .before .before .pre) _ (c .before .loop .inv) (c .loop-test .left) (c .before .before .new .ensures) _ refl
 
