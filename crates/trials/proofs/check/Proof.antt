@@ -31,10 +31,10 @@ returns-3 : tie.Need-returns-3
 returns-3 c = budget-none _ _ _ (line-good _ _ (c .before .before .before .before .before .check-line .ensures) (c .before .before .before .enum-told .given .1)) (passed (c .before .before .check-sheet .ensures) (c .before .if1 .left)) (c .if2 .taken)
 
 returns-4 : tie.Need-returns-4
-returns-4 c = budget-great _ _ _ (line-good _ _ (c .before .before .before .before .before .before .check-line .ensures) (c .before .before .before .before .enum-told .given .1)) (passed (c .before .before .before .check-sheet .ensures) (c .before .before .if1 .left)) (c .if3 .taken)
+returns-4 c = budget-great _ _ _ (line-good _ _ (c .before .before .before .before .before .before .check-line .ensures) (c .before .before .before .before .enum-told .given .1)) (passed (c .before .before .before .check-sheet .ensures) (c .before .before .if1 .left)) (omega (arith, c .if3 .taken))
 
 returns-5 : tie.Need-returns-5
-returns-5 c = all-good _ _ _ (line-good _ _ (c .before .before .before .before .before .before .check-line .ensures) (c .before .before .before .before .enum-told .given .1)) (passed (c .before .before .before .check-sheet .ensures) (c .before .before .if1 .left)) (c .before .if2 .left) (c .if3 .left)
+returns-5 c = all-good _ _ _ (line-good _ _ (c .before .before .before .before .before .before .check-line .ensures) (c .before .before .before .before .enum-told .given .1)) (passed (c .before .before .before .check-sheet .ensures) (c .before .before .if1 .left)) (c .before .if2 .left) (omega (arith, c .if3 .left))
 
 pub check-spec : {M : Type 1} → statement M
 check-spec =
