@@ -1,6 +1,7 @@
 pub mod Size
 pub mod Places
 pub mod Rows
+pub mod Chunks
 pub mod Reading
 pub mod Unread
 pub mod Ends

@@ -1,5 +1,5 @@
 -- What the row's loop knows: limits below the row's start are not judged, so the loop begins at the start.
-use mathlib.Core.Path.{_≡_, refl, sym, ap, ap₂, _∙_}
+use mathlib.Core.Path.{_≡_, refl, sym, ap, _∙_}
 use mathlib.Core.Logic.{_⊎_, inl, inr}
 use mathlib.Core.Bool.{Bool, true, false, not, _&&_, _||_}
 use mathlib.Core.List.{List}
@@ -29,12 +29,6 @@ module _ (sheet : List ℕ) (n : ℕ) (half : Half) where
   unfolding fitsAt
   judged {c} {l} from byte answer = answer ∙ ap (entryFits c l) byte ∙ rw (le-ltb l c from)
 
-  -- so what is said of its byte in bytes is said of its place
-  pub odd-here :
-      {c l e p q : ℕ} {r : Bool} → c ≤ l → p ≡ c → q ≡ l → e ≡ entryAt sheet n half c l → r ≡ not (entryFits p q e) →
-      r ≡ not (fitsAt sheet n half c l)
-  odd-here {e = e} from start limit byte answer = answer ∙ ap not (ap₂ (λ (x y : ℕ). entryFits x y e) start limit ∙ judged from byte refl)
-
 -- ---- as bytes, with no branch
 
 -- a test on bytes that joins nothing but comparisons: it holds exactly where an entry does not fit
@@ -48,17 +42,23 @@ odd-is c l e = go (eqb e 255) (tested (leb c e)) (tested (leb e l))
     go false (inl p) (inr q) = rw (p, q, le-ltb e c (leb-true c e p), lt-ltb l e (leb-false e l q))
     go false (inr p) q = rw (p, lt-ltb e c (leb-false c e p))
 
+-- something is odd, in one part or another, exactly if not both fit
+pub joined : (odd fits here : Bool) → here ≡ not fits → (not odd && fits) ≡ not (odd || here)
+joined true fits here e = refl
+joined false true here e = ap not (sym e)
+joined false false here e = ap not (sym e)
+
 -- what is odd so far, with what is odd here
 pub odd-more : (i : ℕ) (f : ℕ → Bool) (odd here : Bool) → everyBelow i f ≡ not odd → here ≡ not (f i) → everyBelow (i + 1) f ≡ not (odd || here)
-odd-more i f odd here p q = every-more i f ∙ ap (λ (b : Bool). b && f i) p ∙ go odd (f i) here q
-  where
-    go : (o t h : Bool) → h ≡ not t → (not o && t) ≡ not (o || h)
-    go true t h e = refl
-    go false true h e = ap not (sym e)
-    go false false h e = ap not (sym e)
+odd-more i f odd here p q = every-more i f ∙ ap (λ (b : Bool). b && f i) p ∙ joined odd (f i) here q
 
-pub none-odd : (n : ℕ) (f : ℕ → Bool) (i : ℕ) (odd : Bool) → i ≡ n → everyBelow i f ≡ not odd → not odd ≡ everyBelow n f
-none-odd n f i odd e p = sym p ∙ ap (λ (m : ℕ). everyBelow m f) e
+-- what is odd, once all is tried
+pub all-tried : (n : ℕ) (f : ℕ → Bool) (i : ℕ) (odd : Bool) → i ≡ n → everyBelow i f ≡ not odd → odd ≡ not (everyBelow n f)
+all-tried n f i odd e p = sym (not-not odd) ∙ ap not (sym p ∙ ap (λ (m : ℕ). everyBelow m f) e)
+  where
+    not-not : (b : Bool) → not (not b) ≡ b
+    not-not true = refl
+    not-not false = refl
 
 -- ---- the places of the longest line
 

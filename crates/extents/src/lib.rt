@@ -2,10 +2,13 @@
 // decimal parse end. It is added by the port and carries over no Rust file: the Rust's expression parsers stand behind it.
 // `check_sheet` refuses a sheet of the wrong length or with a wrong entry (number 4); the readers answer on every input.
 ghost use mathlib.Core.Path.{_≡_};
-ghost use mathlib.Core.Bool.{true, not};
-ghost use Prim.Native.Nat.{_≤_};
-ghost use Rattle.extents.specs.Sheet.{sized, HasEntry, entryAt, entryFits, rowFits, halfFits, sheetFits};
+ghost use mathlib.Core.Bool.{true, not, _&&_, _||_};
+ghost use Prim.Native.Nat.{ℕ, _+_, _≤_};
+ghost use lib.Dec.{ltb};
+ghost use Rattle.plain.specs.Below.{everyBelow};
+ghost use Rattle.extents.specs.Sheet.{sized, HasEntry, entryAt, entryFits, fitsAt, rowFits, halfFits, sheetFits};
 ghost use Rattle.extents.specs.Held.{HeldPlaces};
+ghost use Rattle.extents.specs.declared.Half.the-variants.{Free, Greedy};
 ghost use Rattle.extents.specs.Sheet.{entryEnd, endIn, freeEnd, greedyEnd, endOf};
 
 // An entry's byte that says: no expression here.
@@ -21,6 +24,16 @@ const TOO_LONG: usize = 0x8000_0000;
 const LONGEST: u8 = 120;
 
 const PLACES: usize = 121;
+
+// How many limits of a row are tried at once: as many as the line has room for.
+const WIDE: usize = 16;
+
+const NARROW: usize = 8;
+
+// The shortest lines with so many limits.
+const SHORTEST_WIDE: usize = 15;
+
+const SHORTEST_NARROW: usize = 7;
 
 // The sheet's halves, in their order. Public, since the definitions and laws that other crates cite speak of it.
 pub enum Half {
@@ -93,36 +106,137 @@ fn is_odd(c: u8, l: u8, e: u8) -> bool
     (e != NONE) & ((e < c) | (l < e))
 }
 
-// As `row_fits`, for a line that is not too long: starts, limits and entries are compared as bytes, and no entry ends the
-// loop, so that the compiler has one instruction for sixteen of them.
-fn short_row_fits(sheet: &[u8], places: &[u8], n: usize, half: Half, c: usize) -> bool
+// Whether an entry of either half is odd, unless its start lies above its limit.
+fn is_pair_odd(c: u8, l: u8, free: u8, greedy: u8) -> bool
+    ensures odd { λ r. ⌜ r ≡ not ((ltb l c || entryFits c l free) && (ltb l c || entryFits c l greedy)) ⌝ }
+{
+    (c <= l) & (is_odd(c, l, free) | is_odd(c, l, greedy))
+}
+
+// Whether an entry of either half is odd, for start c and one of the sixteen limits from l on. The count is fixed and no
+// entry ends the loop, so that the compiler tries them at once.
+fn sixteen_odd(sheet: &[u8], places: &[u8], n: usize, c: usize, l: usize) -> bool
     requires size { ⌜ sized (now sheet) n ≡ true ⌝ }
     requires held { ⌜ HeldPlaces (now places) ⌝ }
     requires short { ⌜ n ≤ 120 ⌝ }
     requires start { ⌜ c ≤ n ⌝ }
-    ensures fits { λ r. ⌜ r ≡ rowFits (now (sheet .entry)) n half c ⌝ }
+    requires room { ⌜ l + 16 ≤ n + 1 ⌝ }
+    ensures odd { λ r. ⌜ r ≡ not (everyBelow 16 (λ (k : ℕ). fitsAt (now (sheet .entry)) n Free c (l + k) && fitsAt (now (sheet .entry)) n Greedy c (l + k))) ⌝ }
 {
     let start = places[c];
-    let end = n + 1;
+    let mut odd = false;
+    let mut i: usize = 0;
+    while i < WIDE {
+        let at = l + i;
+        let free = entry(sheet, n, Half::Free, c, at);
+        let greedy = entry(sheet, n, Half::Greedy, c, at);
+        odd = odd | is_pair_odd(start, places[at], free, greedy);
+        i += 1;
+    }
+    odd
+}
+
+// As `sixteen_odd`, for the eight limits from l on.
+fn eight_odd(sheet: &[u8], places: &[u8], n: usize, c: usize, l: usize) -> bool
+    requires size { ⌜ sized (now sheet) n ≡ true ⌝ }
+    requires held { ⌜ HeldPlaces (now places) ⌝ }
+    requires short { ⌜ n ≤ 120 ⌝ }
+    requires start { ⌜ c ≤ n ⌝ }
+    requires room { ⌜ l + 8 ≤ n + 1 ⌝ }
+    ensures odd { λ r. ⌜ r ≡ not (everyBelow 8 (λ (k : ℕ). fitsAt (now (sheet .entry)) n Free c (l + k) && fitsAt (now (sheet .entry)) n Greedy c (l + k))) ⌝ }
+{
+    let start = places[c];
+    let mut odd = false;
+    let mut i: usize = 0;
+    while i < NARROW {
+        let at = l + i;
+        let free = entry(sheet, n, Half::Free, c, at);
+        let greedy = entry(sheet, n, Half::Greedy, c, at);
+        odd = odd | is_pair_odd(start, places[at], free, greedy);
+        i += 1;
+    }
+    odd
+}
+
+// Whether the entries of both halves for start c fit, tried sixteen at a time. The last sixteen end with the row: they may
+// try some limits again, and some below the start, which are never odd.
+fn wide_row_fits(sheet: &[u8], places: &[u8], n: usize, c: usize) -> bool
+    requires size { ⌜ sized (now sheet) n ≡ true ⌝ }
+    requires held { ⌜ HeldPlaces (now places) ⌝ }
+    requires short { ⌜ n ≤ 120 ⌝ }
+    requires start { ⌜ c ≤ n ⌝ }
+    requires room { ⌜ 16 ≤ n + 1 ⌝ }
+    ensures fits { λ r. ⌜ r ≡ (rowFits (now (sheet .entry)) n Free c && rowFits (now (sheet .entry)) n Greedy c) ⌝ }
+{
+    let last = n + 1 - WIDE;
     let mut odd = false;
     let mut l: usize = c;
-    while l < end {
-        odd = odd | is_odd(start, places[l], entry(sheet, n, half, c, l));
-        l += 1;
+    while l < last {
+        odd = odd | sixteen_odd(sheet, places, n, c, l);
+        l += WIDE;
     }
-    !odd
+    !(odd | sixteen_odd(sheet, places, n, c, last))
+}
+
+// As `wide_row_fits`, tried eight at a time.
+fn narrow_row_fits(sheet: &[u8], places: &[u8], n: usize, c: usize) -> bool
+    requires size { ⌜ sized (now sheet) n ≡ true ⌝ }
+    requires held { ⌜ HeldPlaces (now places) ⌝ }
+    requires short { ⌜ n ≤ 120 ⌝ }
+    requires start { ⌜ c ≤ n ⌝ }
+    requires room { ⌜ 8 ≤ n + 1 ⌝ }
+    ensures fits { λ r. ⌜ r ≡ (rowFits (now (sheet .entry)) n Free c && rowFits (now (sheet .entry)) n Greedy c) ⌝ }
+{
+    let last = n + 1 - NARROW;
+    let mut odd = false;
+    let mut l: usize = c;
+    while l < last {
+        odd = odd | eight_odd(sheet, places, n, c, l);
+        l += NARROW;
+    }
+    !(odd | eight_odd(sheet, places, n, c, last))
+}
+
+// Whether the entries of both halves for start c fit, sixteen or eight at a time.
+fn byte_row_fits(sheet: &[u8], places: &[u8], n: usize, c: usize) -> bool
+    requires size { ⌜ sized (now sheet) n ≡ true ⌝ }
+    requires held { ⌜ HeldPlaces (now places) ⌝ }
+    requires short { ⌜ n ≤ 120 ⌝ }
+    requires start { ⌜ c ≤ n ⌝ }
+    requires room { ⌜ 8 ≤ n + 1 ⌝ }
+    ensures fits { λ r. ⌜ r ≡ (rowFits (now (sheet .entry)) n Free c && rowFits (now (sheet .entry)) n Greedy c) ⌝ }
+{
+    if n < SHORTEST_WIDE {
+        return narrow_row_fits(sheet, places, n, c);
+    }
+    wide_row_fits(sheet, places, n, c)
+}
+
+// Whether the entries of both halves fit at every start, for a line that is neither too long nor too short: starts, limits
+// and entries are compared as bytes, many at once.
+fn byte_sheet_fits(sheet: &[u8], places: &[u8], n: usize) -> bool
+    requires size { ⌜ sized (now sheet) n ≡ true ⌝ }
+    requires held { ⌜ HeldPlaces (now places) ⌝ }
+    requires short { ⌜ n ≤ 120 ⌝ }
+    requires room { ⌜ 8 ≤ n + 1 ⌝ }
+    ensures fits { λ r. ⌜ r ≡ (halfFits (now (sheet .entry)) n Free && halfFits (now (sheet .entry)) n Greedy) ⌝ }
+{
+    let mut c = 0;
+    while c <= n {
+        if !byte_row_fits(sheet, places, n, c) {
+            return false;
+        }
+        c += 1;
+    }
+    true
 }
 
 // Whether the entries of a half for start c fit, at every limit from c on.
-fn row_fits(sheet: &[u8], places: &[u8], n: usize, half: Half, c: usize) -> bool
+fn row_fits(sheet: &[u8], n: usize, half: Half, c: usize) -> bool
     requires size { ⌜ sized (now sheet) n ≡ true ⌝ }
-    requires held { ⌜ HeldPlaces (now places) ⌝ }
     requires start { ⌜ c ≤ n ⌝ }
     ensures fits { λ r. ⌜ r ≡ rowFits (now (sheet .entry)) n half c ⌝ }
 {
-    if n <= LONGEST as usize {
-        return short_row_fits(sheet, places, n, half, c);
-    }
     let mut l = c;
     while l <= n {
         if !entry_fits(c, l, entry(sheet, n, half, c, l)) {
@@ -134,19 +248,29 @@ fn row_fits(sheet: &[u8], places: &[u8], n: usize, half: Half, c: usize) -> bool
 }
 
 // Whether the entries of a half fit, at every start.
-fn half_fits(sheet: &[u8], places: &[u8], n: usize, half: Half) -> bool
+fn half_fits(sheet: &[u8], n: usize, half: Half) -> bool
     requires size { ⌜ sized (now sheet) n ≡ true ⌝ }
-    requires held { ⌜ HeldPlaces (now places) ⌝ }
     ensures fits { λ r. ⌜ r ≡ halfFits (now (sheet .entry)) n half ⌝ }
 {
     let mut c = 0;
     while c <= n {
-        if !row_fits(sheet, places, n, half, c) {
+        if !row_fits(sheet, n, half, c) {
             return false;
         }
         c += 1;
     }
     true
+}
+
+// Whether the entries of both halves fit, one by one.
+fn halves_fit(sheet: &[u8], n: usize) -> bool
+    requires size { ⌜ sized (now sheet) n ≡ true ⌝ }
+    ensures fits { λ r. ⌜ r ≡ (halfFits (now (sheet .entry)) n Free && halfFits (now (sheet .entry)) n Greedy) ⌝ }
+{
+    if !half_fits(sheet, n, Half::Free) {
+        return false;
+    }
+    half_fits(sheet, n, Half::Greedy)
 }
 
 // Whether the sheet is good for a line of n bytes: its length is 2(n+1)², and each entry whose start is not above its
@@ -157,11 +281,14 @@ pub fn check_sheet(sheet: &[u8], n: usize) -> bool
     if !is_sized(sheet, n) {
         return false;
     }
-    let places = held_places();
-    if !half_fits(sheet, &places, n, Half::Free) {
-        return false;
+    if n > LONGEST as usize {
+        return halves_fit(sheet, n);
     }
-    half_fits(sheet, &places, n, Half::Greedy)
+    if n < SHORTEST_NARROW {
+        return halves_fit(sheet, n);
+    }
+    let places = held_places();
+    byte_sheet_fits(sheet, &places, n)
 }
 
 // The end that an entry gives: 255 for none.

@@ -14,26 +14,26 @@ use Rattle.extents.proofs.half_fits.Statement.{statement}
 use Rattle.extents.proofs.half_fits.Tie as tie
 
 abbrev Inv-loop : tie.InvT-loop
-Inv-loop sheet places n half c₀ c = everyBelow c (rowFits sheet n half) ≡ true
+Inv-loop sheet n half c₀ c = everyBelow c (rowFits sheet n half) ≡ true
 
 abbrev μ-loop : tie.MeasureT-loop
-μ-loop sheet places n half c₀ c = n + 1 - c
+μ-loop sheet n half c₀ c = n + 1 - c
 
 loop-holds : tie.Need-loop-holds Inv-loop μ-loop
 loop-holds c = every-none _
 
 row-fits-requires : tie.Need-row-fits-requires Inv-loop μ-loop
-row-fits-requires c κs = (c .before .before .before .before .pre .0, (c .before .before .before .before .pre .1, omega (arith, c .loop-test .taken)))
+row-fits-requires c κs = (c .before .before .before .pre, omega (arith, c .loop-test .taken))
 
 returns : tie.Need-returns Inv-loop μ-loop
 unfolding halfFits
 returns c = sym (every-fails _ _ (c .before .before .before .loop .c) (omega (arith, c .before .before .loop-test .taken)) (refused (c .before .row-fits .ensures) (c .if1 .taken)))
 
 add-c : tie.Need-add-c Inv-loop μ-loop
-add-c c = omega (arith, longer _ _ (c .before .before .before .before .before .before .pre .0), c .before .before .loop-test .taken)
+add-c c = omega (arith, longer _ _ (c .before .before .before .before .before .pre), c .before .before .loop-test .taken)
 
 loop-less : tie.Need-loop-less Inv-loop μ-loop
-loop-less c = omega arith
+loop-less c = omega (arith, c .before .before .loop-test .taken)
 
 loop-again : tie.Need-loop-again Inv-loop μ-loop
 loop-again c = every-step _ _ (c .before .before .before .loop .inv) (passed (c .before .row-fits .ensures) (c .if1 .left))

@@ -15,45 +15,36 @@ use Rattle.extents.proofs.row_fits.Statement.{statement}
 use Rattle.extents.proofs.row_fits.Tie as tie
 
 abbrev Inv-loop : tie.InvT-loop
-Inv-loop sheet places n half c l₀ l = (c ≤ l) × (everyBelow l (fitsAt sheet n half c) ≡ true)
+Inv-loop sheet n half c l₀ l = (c ≤ l) × (everyBelow l (fitsAt sheet n half c) ≡ true)
 
 abbrev μ-loop : tie.MeasureT-loop
-μ-loop sheet places n half c l₀ l = n + 1 - l
-
-cast-if1 : tie.Need-cast-if1 Inv-loop μ-loop
-cast-if1 c = search needs
-
-short-row-fits-requires : tie.Need-short-row-fits-requires Inv-loop μ-loop
-short-row-fits-requires c κs = (c .before .before .before .pre .0, (c .before .before .before .pre .1 .0, (omega (arith, c .if1 .taken), c .before .before .before .pre .1 .1)))
-
-returns : tie.Need-returns Inv-loop μ-loop
-returns c = c .short-row-fits .ensures
+μ-loop sheet n half c l₀ l = n + 1 - l
 
 loop-holds : tie.Need-loop-holds Inv-loop μ-loop
 loop-holds c = (omega arith, none-judged _ _ _ _)
 
 entry-requires : tie.Need-entry-requires Inv-loop μ-loop
-entry-requires c κs = record { size = c .before .before .before .before .before .pre .0; start = c .before .before .before .before .before .pre .1 .1; limit = omega (arith, c .loop-test .taken) }
+entry-requires c κs = record { size = c .before .before .before .pre .0; start = c .before .before .before .pre .1; limit = omega (arith, c .loop-test .taken) }
 
 entry-fits-requires : tie.Need-entry-fits-requires Inv-loop μ-loop
 entry-fits-requires c κs = search needs
 
-returns-2 : tie.Need-returns-2 Inv-loop μ-loop
+returns : tie.Need-returns Inv-loop μ-loop
 unfolding rowFits
-returns-2 c = sym (every-fails _ _ (c .before .before .before .before .loop .l) (omega (arith, c .before .before .before .loop-test .taken)) (refused (judged _ _ _ (c .before .before .before .before .loop .inv .0) (c .before .before .entry .ensures) (c .before .entry-fits .ensures)) (c .if2 .taken)))
+returns c = sym (every-fails _ _ (c .before .before .before .before .loop .l) (omega (arith, c .before .before .before .loop-test .taken)) (refused (judged _ _ _ (c .before .before .before .before .loop .inv .0) (c .before .before .entry .ensures) (c .before .entry-fits .ensures)) (c .if1 .taken)))
 
 add-l : tie.Need-add-l Inv-loop μ-loop
-add-l c = omega (arith, longer _ _ (c .before .before .before .before .before .before .before .before .pre .0), c .before .before .before .loop-test .taken)
+add-l c = omega (arith, longer _ _ (c .before .before .before .before .before .before .pre .0), c .before .before .before .loop-test .taken)
 
 loop-less : tie.Need-loop-less Inv-loop μ-loop
 loop-less c = omega (arith, c .before .before .before .loop-test .taken)
 
 loop-again : tie.Need-loop-again Inv-loop μ-loop
-loop-again c = (omega (arith, c .before .before .before .before .loop .inv .0), every-step _ _ (c .before .before .before .before .loop .inv .1) (passed (judged _ _ _ (c .before .before .before .before .loop .inv .0) (c .before .before .entry .ensures) (c .before .entry-fits .ensures)) (c .if2 .left)))
+loop-again c = (omega (arith, c .before .before .before .before .loop .inv .0), every-step _ _ (c .before .before .before .before .loop .inv .1) (passed (judged _ _ _ (c .before .before .before .before .loop .inv .0) (c .before .before .entry .ensures) (c .before .entry-fits .ensures)) (c .if1 .left)))
 
-returns-3 : tie.Need-returns-3 Inv-loop μ-loop
+returns-2 : tie.Need-returns-2 Inv-loop μ-loop
 unfolding rowFits
-returns-3 c = sym (every-fewer _ _ _ (omega (arith, c .loop-test .left)) (c .before .loop .inv .1))
+returns-2 c = sym (every-fewer _ _ _ (omega (arith, c .loop-test .left)) (c .before .loop .inv .1))
 
 pub row-fits-spec : {M : Type 1} → statement M
 row-fits-spec =
@@ -61,14 +52,11 @@ row-fits-spec =
     (tie.spec
     Inv-loop
     μ-loop
-    cast-if1
-    short-row-fits-requires
-    returns
     loop-holds
     entry-requires
     entry-fits-requires
-    returns-2
+    returns
     add-l
     loop-less
     loop-again
-    returns-3)
+    returns-2)
