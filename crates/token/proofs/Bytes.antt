@@ -2,23 +2,21 @@
 use mathlib.Core.Path.{_≡_, refl, sym, ap, _∙_}
 use mathlib.Core.Logic.{_⊎_, inl, inr}
 use mathlib.Core.Bool.{Bool, true, false, _&&_}
-use mathlib.Core.List.{map}
-use Prim.Native.Nat.{ℕ, _+_, _/_, _%_, _<_, _≤_}
-use native.Mathlib.Nat.{zero-add}
+use mathlib.Core.List.{List, [], _∷_}
+use Prim.Native.Nat.{ℕ, _+_, _*_, _/_, _%_, _<_, _≤_}
 use native.Mathlib.Omega.{arith}
 use lib.Dec.{eqb, leb}
-use lib.ListN.{getD, List·getD-map}
+use lib.ListN.{getD}
 use borrow.Author.Tests.{leb-true, lt-leb, eqb-true, eqb-false, eq-eqb, ne-eqb}
 use Rattle.plain.specs.Choice.{select}
-use Rattle.plain.specs.Lists.{range}
-use Rattle.plain.proofs.Lists.{range-at}
+use Rattle.plain.specs.Lists.{listed}
+use Rattle.plain.proofs.Lists.{listed-at}
 use Rattle.plain.proofs.Tests.{and-left, and-right, and-false-right, tested}
 use Rattle.token.specs.Token.{isWhitespace, lowered, sameLetter, classKind, classOf}
 
--- each byte finds its own class in the list of all classes, which antt computes and compares with the table
-pub class-rule : (b : ℕ) → b < 256 → getD (map classOf (range 0 256)) b 0 ≡ classOf b
-unfolding classOf lowered classKind isWhitespace
-class-rule b h = List·getD-map classOf (range 0 256) b 0 ∙ ap classOf (range-at 0 256 b 0 h ∙ zero-add b)
+-- each byte finds its own class in the table that is laid
+pub class-rule : (t : List ℕ) → t ≡ listed 256 classOf → (b : ℕ) → b < 256 → getD t b 0 ≡ classOf b
+class-rule t e b h = ap (λ (u : List ℕ). getD u b 0) e ∙ listed-at 256 classOf b h
 
 pub lowered-below : (b : ℕ) → b < 256 → lowered b < 256
 unfolding lowered
@@ -36,17 +34,59 @@ pub class-kind : (b : ℕ) → b < 256 → classOf b / 256 ≡ classKind b
 unfolding classOf
 class-kind b h = omega (arith, lowered-below b h)
 
-pub kind-whitespace : (b : ℕ) → eqb (classKind b) 1 ≡ isWhitespace b
+-- the kind by its five tests: whitespace, `(`, `)`, `{`, `}`
+abbrev kindBy : Bool → Bool → Bool → Bool → Bool → ℕ
+kindBy w o c p q = select w 1 (select o 2 (select c 3 (select p 4 (select q 5 0))))
+
+kind-whitespace : (b : ℕ) → eqb (classKind b) 1 ≡ isWhitespace b
 unfolding classKind
 kind-whitespace b = go (isWhitespace b) (eqb b 40) (eqb b 41) (eqb b 123) (eqb b 125)
   where
-    go : (w o c p q : Bool) → eqb (select w 1 (select o 2 (select c 3 (select p 4 (select q 5 0))))) 1 ≡ w
+    go : (w o c p q : Bool) → eqb (kindBy w o c p q) 1 ≡ w
     go true o c p q = refl
     go false true c p q = refl
     go false false true p q = refl
     go false false false true q = refl
     go false false false false true = refl
     go false false false false false = refl
+
+-- whitespace, read off a class
+pub class-whitespace : (b c : ℕ) → b < 256 → c ≡ classOf b → eqb (c / 256) 1 ≡ isWhitespace b
+class-whitespace b c h e = ap (λ (n : ℕ). eqb (n / 256) 1) e ∙ ap (λ (n : ℕ). eqb n 1) (class-kind b h) ∙ kind-whitespace b
+
+-- the bracket of each kind; 0 for the kinds that have none
+abbrev pub bracketOf : ℕ → ℕ
+bracketOf k = getD (0 ∷ 0 ∷ 40 ∷ 41 ∷ 123 ∷ 125 ∷ []) k 0
+
+pub kind-bracket : (b : ℕ) → 2 ≤ classKind b → b ≡ bracketOf (classKind b)
+unfolding classKind
+kind-bracket b = go (isWhitespace b) (eqb b 40) (eqb b 41) (eqb b 123) (eqb b 125) refl refl refl refl
+  where
+    go : (w o c p q : Bool) → eqb b 40 ≡ o → eqb b 41 ≡ c → eqb b 123 ≡ p → eqb b 125 ≡ q
+        → 2 ≤ kindBy w o c p q → b ≡ bracketOf (kindBy w o c p q)
+    go true o c p q e f g i h = absurd (omega arith)
+    go false true c p q e f g i h = eqb-true b 40 e
+    go false false true p q e f g i h = eqb-true b 41 f
+    go false false false true q e f g i h = eqb-true b 123 g
+    go false false false false true e f g i h = eqb-true b 125 i
+    go false false false false false e f g i h = absurd (omega arith)
+
+-- there are six kinds, so a class has room for a mark above it
+pub kind-small : (b : ℕ) → classKind b < 6
+unfolding classKind
+kind-small b = go (isWhitespace b) (eqb b 40) (eqb b 41) (eqb b 123) (eqb b 125)
+  where
+    go : (w o c p q : Bool) → kindBy w o c p q < 6
+    go true o c p q = omega arith
+    go false true c p q = omega arith
+    go false false true p q = omega arith
+    go false false false true q = omega arith
+    go false false false false true = omega arith
+    go false false false false false = omega arith
+
+pub class-small : (b : ℕ) → b < 256 → classOf b < 1536
+unfolding classOf
+class-small b h = omega (arith, lowered-below b h, kind-small b)
 
 -- ---- where the table need not be read: past a bound of the code, which the last premise judges
 
@@ -105,3 +145,29 @@ letters-swap a b = go (tested (sameLetter a b))
 
 pub letters-equal : (a b : ℕ) → a ≡ b → true ≡ sameLetter a b
 letters-equal a b e = sym (eq-eqb (lowered a) (lowered b) (ap lowered e))
+
+-- ---- the two cases of a letter
+
+pub lowered-again : (b : ℕ) → lowered (lowered b) ≡ lowered b
+lowered-again b = go (partner b)
+  where
+    go : Partner b (lowered b) → lowered (lowered b) ≡ lowered b
+    go (inl e) = ap lowered e
+    go (inr e) = sym (low-above 90 (lowered b) (omega (arith, e .0, e .1)) (omega arith))
+
+capital-kind : (b : ℕ) → 65 ≤ b → b ≤ 90 → classKind b ≡ 0
+unfolding classKind
+capital-kind b l h =
+    rw (classKind, sym (white-above 32 b (omega arith) (omega arith)), ne-eqb b 40 (λ e. omega arith), ne-eqb b 41 (λ e. omega arith), ne-eqb b 123 (λ e. omega arith), ne-eqb b 125 (λ e. omega arith))
+
+-- The same letter is a byte's partner, or the capital 32 below that, whose class is the partner alone.
+pub same-or-capital : (a b : ℕ) → sameLetter a b ≡ true → (a ≡ lowered b → ⊥) → (a + 32 ≡ lowered b) × (classOf a ≡ lowered b)
+unfolding classOf
+same-or-capital a b s n = go (partner a)
+  where
+    same : lowered a ≡ lowered b
+    same = eqb-true (lowered a) (lowered b) s
+
+    go : Partner a (lowered a) → (a + 32 ≡ lowered b) × (lowered a + 256 * classKind a ≡ lowered b)
+    go (inl e) = absurd (n (sym e ∙ same))
+    go (inr e) = (sym (e .0) ∙ same, omega (arith, same, capital-kind a (e .1) (e .2)))

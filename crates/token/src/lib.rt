@@ -2,9 +2,10 @@
 // From `src/syntax/token.rs` of the Rust, whose `is_whitespace` is not in the published text: document 01
 // says what it is. Total: every byte has a class, and nothing is refused.
 ghost use mathlib.Core.Path.{_≡_};
+ghost use Rattle.plain.specs.Lists.{listed};
 ghost use Rattle.token.specs.Token.{classOf, isWhitespace, lowered, sameLetter};
 
-// The lower-case partner of each byte, and 256 times its kind: 1 whitespace, 2 `(`, 3 `)`, 4 `{`, 5 `}`, else 0.
+// The lower-case partner of each byte, and 256 times its kind: a number below, or 0.
 const CLASSES: [u16; 256] = [
     0,
     1,
@@ -264,11 +265,20 @@ const CLASSES: [u16; 256] = [
     255,
 ];
 
-const PARTNERS: u16 = 256;
+// A class is its partner plus this many times its kind.
+pub const PARTNERS: u16 = 256;
 
-const WHITESPACE: u16 = 1;
+pub const WHITESPACE: u16 = 1;
 
-// No byte above this is whitespace, and none outside the next two has a partner other than itself. The compiler builds the
+pub const OPEN_PAREN: u16 = 2;
+
+pub const CLOSE_PAREN: u16 = 3;
+
+pub const OPEN_BRACE: u16 = 4;
+
+pub const CLOSE_BRACE: u16 = 5;
+
+// No byte above this is whitespace, and none outside the next two has a partner other than itself. The compiler lays the
 // table anew at each read, so it is read only for the bytes that these leave.
 const LAST_WHITESPACE: u8 = 32;
 
@@ -277,13 +287,21 @@ const FIRST_CAPITAL: u8 = 65;
 const LAST_CAPITAL: u8 = 90;
 
 // How far a capital's partner stands above it.
-const STEP: u16 = 32;
+pub const STEP: u16 = 32;
+
+// The table, laid for whoever reads it for many bytes.
+pub fn classes() -> [u16; 256]
+    ensures answers { λ r. ⌜ r ≡ listed 256 classOf ⌝ }
+{
+    CLASSES
+}
 
 fn class(b: u8) -> u16
     ensures { λ r. ⌜ r ≡ classOf b ⌝ }
 {
+    let table = classes();
     let at = b as usize;
-    CLASSES[at]
+    table[at]
 }
 
 // Whether the byte is 9 or 32.

@@ -1,8 +1,5 @@
-use mathlib.Core.Path.{ap, _∙_}
-use lib.Dec.{eqb}
-use Prim.Native.Nat.{ℕ, _/_}
 use native.Mathlib.Omega.{arith}
-use Rattle.token.proofs.Bytes.{class-kind, kind-whitespace, white-above}
+use Rattle.token.proofs.Bytes.{class-whitespace, white-above}
 use borrow.Author.Needs.{needs}
 use Rattle.token.proofs.is_whitespace.Statement.{statement}
 use Rattle.token.proofs.is_whitespace.Tie as tie
@@ -17,7 +14,7 @@ class-requires : tie.Need-class-requires
 class-requires c κs = search needs
 
 returns-2 : tie.Need-returns-2
-returns-2 c = ap (λ (n : ℕ). eqb (n / 256) 1) (c .class .ensures) ∙ ap (λ (n : ℕ). eqb n 1) (class-kind _ (search needs)) ∙ kind-whitespace _
+returns-2 c = class-whitespace _ _ (search needs) (c .class .ensures)
 
 pub is-whitespace-spec : {M : Type 1} → statement M
 is-whitespace-spec = tie.close (tie.spec returns class-requires returns-2)
