@@ -2,8 +2,8 @@
 -- The argument: while no closer has been stray, closers never outnumber openers, so what the search carries along is
 -- what counting from the cursor gives; then each place is judged by the same tests in the scan and in the description.
 use mathlib.Core.Path.{_≡_, refl, sym, ap, ap₂, _∙_, subst}
-use mathlib.Core.Logic.{⊎-elim, _↔_}
-use mathlib.Core.Bool.{Bool, true, false, _&&_, _||_, or-false}
+use mathlib.Core.Logic.{_⊎_, inl, inr, ⊎-elim, _↔_}
+use mathlib.Core.Bool.{Bool, true, false, not, _&&_, _||_, or-false}
 use mathlib.Core.List.{List, [], _∷_, _++_}
 use mathlib.Core.Option.{Option, none, some}
 use Prim.Native.Nat.{ℕ, zero, suc, _+_, _-_, _≤_, _<_}
@@ -13,19 +13,19 @@ use native.Mathlib.Omega.{arith}
 use lib.Dec.{eqb}
 use lib.ListN.{length}
 use lib.Seq.{slice, slice-empty, slice-cons, take-suc, drop-append-le, length-take-le}
-use borrow.Author.Tests.{eqb-true, eqb-false, eq-eqb}
+use borrow.Author.Tests.{eqb-true, eqb-false, eq-eqb, ne-eqb}
 use Rattle.plain.specs.Choice.{select}
 use Rattle.plain.specs.Lists.{some-of, count}
-use Rattle.plain.proofs.Tests.{tested, not-both, or-false-left, or-false-right}
+use Rattle.plain.proofs.Tests.{tested, not-both, or-false-left, or-false-right, or-left}
 use Rattle.plain.proofs.Lists.{some-of-append, count-append}
-use Rattle.token.specs.Token.{isSolid}
-use Rattle.syntax.specs.Walker.{byteAt}
+use Rattle.token.specs.Token.{isWhitespace, isSolid}
+use Rattle.syntax.specs.Walker.{byteAt, UsefulPlace, usefulFrom, useful}
 use Rattle.syntax.specs.Cut.{isWanted, isStray, nesting, passedTo, CutAt, Cuts, takenIn, turnOf, follow, searched, fresh, cutFrom, cut}
 use Rattle.syntax.specs.declared.walker.Walker.{Walker}
 use Rattle.syntax.specs.declared.walker.Search.{Search}
 use Rattle.syntax.specs.declared.walker.Turn.{Turn}
 use Rattle.syntax.specs.declared.walker.Turn.the-variants as Turn
-use Rattle.syntax.proofs.Useful.{InLine}
+use Rattle.syntax.proofs.Useful.{InLine, useful-end, useful-here, useful-later, useful-is}
 use Rattle.syntax.proofs.Turns.{turn-wanted, turn-stray, turn-on}
 
 -- ---- the scan's steps
@@ -53,21 +53,94 @@ grown true b n = omega arith
 grown false true n = omega arith
 grown false false n = omega arith
 
-pub turn-grows : (x b : ℕ) (s t : Search) → Turn.On t ≡ turnOf x b s → (t .parens ≤ s .parens + 1) × (t .braces ≤ s .braces + 1)
-unfolding turnOf takenIn
-turn-grows x b s t e = go (isWanted x b s) (isStray b s) e
-  where
-    taken : Turn.On t ≡ Turn.On (takenIn b s) → (t .parens ≤ s .parens + 1) × (t .braces ≤ s .braces + 1)
-    taken q =
-        let p : t ≡ takenIn b s = cc in
-        subst (λ (u : Search). (u .parens ≤ s .parens + 1) × (u .braces ≤ s .braces + 1)) (sym p)
-        (grown (eqb b 40) (eqb b 41) (s .parens), grown (eqb b 123) (eqb b 125) (s .braces))
+-- no bracket is whitespace
+brackets-solid : (isWhitespace 40 ≡ false) × ((isWhitespace 41 ≡ false) × ((isWhitespace 123 ≡ false) × (isWhitespace 125 ≡ false)))
+unfolding isWhitespace
+brackets-solid = (refl, (refl, (refl, refl)))
 
-    go : (w y : Bool) → Turn.On t ≡ select w Turn.Cut (select y Turn.Stray (Turn.On (takenIn b s)))
-        → (t .parens ≤ s .parens + 1) × (t .braces ≤ s .braces + 1)
+-- a search that goes on has taken the byte in
+turn-taken : (x b : ℕ) (s t : Search) → Turn.On t ≡ turnOf x b s → t ≡ takenIn b s
+unfolding turnOf
+turn-taken x b s t e = go (isWanted x b s) (isStray b s) e
+  where
+    go : (w y : Bool) → Turn.On t ≡ select w Turn.Cut (select y Turn.Stray (Turn.On (takenIn b s))) → t ≡ takenIn b s
     go true y q = let z : _≡_ {A = ℕ} 0 1 = cc in absurd (omega arith)
     go false true q = let z : _≡_ {A = ℕ} 0 1 = cc in absurd (omega arith)
-    go false false q = taken q
+    go false false q = cc
+
+-- whitespace before anything has been seen changes nothing
+turn-blank : (x b : ℕ) → isWhitespace b ≡ true → turnOf x b fresh ≡ Turn.On fresh
+unfolding turnOf isWanted isStray takenIn
+turn-blank x b w =
+    rw (
+      w,
+      ne-eqb b 40 (apart 40 (brackets-solid .0)),
+      ne-eqb b 41 (apart 41 (brackets-solid .1 .0)),
+      ne-eqb b 123 (apart 123 (brackets-solid .1 .1 .0)),
+      ne-eqb b 125 (apart 125 (brackets-solid .1 .1 .1)),
+    )
+  where
+    apart : (o : ℕ) → isWhitespace o ≡ false → b ≡ o → ⊥
+    apart o f e = not-both w (ap isWhitespace e ∙ f)
+
+-- ---- the code's loop: it begins at the first byte other than whitespace, and holds this at each turn
+
+pub record Searching (line : List ℕ) (x from end at : ℕ) (s : Search) : Type 0 where
+  pub begun : from ≤ at
+  pub within : at ≤ end
+  pub same : cutFrom line x at end s ≡ cutFrom line x from end fresh
+  pub parens : s .parens + from ≤ at
+  pub braces : s .braces + from ≤ at
+  pub sees : at < end → (s .seen || isSolid (byteAt line at)) ≡ true
+
+module _ (line : List ℕ) (x from end : ℕ) (fits : end ≤ length line) where
+  cut-skips : (n i : ℕ) → i + n ≡ end → cutFrom line x (usefulFrom line i end) end fresh ≡ cutFrom line x i end fresh
+  cut-skips zero i e =
+      let here : i ≡ end = omega arith in
+      ap (λ (k : ℕ). cutFrom line x (usefulFrom line k end) end fresh) here
+      ∙ ap (λ (k : ℕ). cutFrom line x k end fresh) (useful-end line end fits ∙ sym here)
+  cut-skips (suc n) i e = go (cut-skips n (i + 1) (omega arith)) (tested (isWhitespace (byteAt line i)))
+    where
+      go : cutFrom line x (usefulFrom line (i + 1) end) end fresh ≡ cutFrom line x (i + 1) end fresh
+          → (isWhitespace (byteAt line i) ≡ true) ⊎ (isWhitespace (byteAt line i) ≡ false)
+          → cutFrom line x (usefulFrom line i end) end fresh ≡ cutFrom line x i end fresh
+      go later (inl w) =
+          ap (λ (k : ℕ). cutFrom line x k end fresh) (sym (useful-later line end fits i (omega arith) w))
+          ∙ later
+          ∙ sym (cut-step line x end fits i fresh (Turn.On fresh) (omega arith) (sym (turn-blank x (byteAt line i) w)))
+      go later (inr f) = ap (λ (k : ℕ). cutFrom line x k end fresh) (useful-here line end fits i (omega arith) f)
+
+  pub search-begins : (at : ℕ) → from ≤ end → at ≡ usefulFrom line from end → Searching line x from end at fresh
+  unfolding useful
+  search-begins at h e = record {
+    begun = omega (arith, e, place .from);
+    within = omega (arith, e, place .within);
+    same = ap (λ (k : ℕ). cutFrom line x k end fresh) e ∙ cut-skips (end - from) from (omega arith);
+    parens = omega (arith, e, place .from);
+    braces = omega (arith, e, place .from);
+    sees = λ l. ap not (ap (λ (k : ℕ). isWhitespace (byteAt line k)) e ∙ place .stands (omega (arith, e)));
+  }
+    where
+      place : UsefulPlace line (record { cursor = from; limit = end }) (usefulFrom line from end)
+      place = useful-is line (record { cursor = from; limit = end }) (h, fits)
+
+  pub search-goes-on : (at : ℕ) (s t : Search) → Searching line x from end at s → at < end
+      → Turn.On t ≡ turnOf x (byteAt line at) s → Searching line x from end (at + 1) t
+  unfolding takenIn
+  search-goes-on at s t now h on = record {
+    begun = omega arith;
+    within = omega arith;
+    same = sym (cut-step line x end fits at s (Turn.On t) h on) ∙ now .same;
+    parens = omega (arith, ap (λ (u : Search). u .parens) taken, grown (eqb b 40) (eqb b 41) (s .parens));
+    braces = omega (arith, ap (λ (u : Search). u .braces) taken, grown (eqb b 123) (eqb b 125) (s .braces));
+    sees = λ l. or-left (t .seen) (isSolid (byteAt line (at + 1))) (ap (λ (u : Search). u .seen) taken ∙ now .sees h);
+  }
+    where
+      b : ℕ
+      b = byteAt line at
+
+      taken : t ≡ takenIn b s
+      taken = turn-taken x b s t on
 
 -- ---- counting from the cursor, one byte more
 

@@ -1,14 +1,20 @@
 -- One byte of the search for the cut, case by case as the code tells them apart.
-use mathlib.Core.Path.{_≡_, refl}
-use mathlib.Core.Bool.{Bool, true, false, _&&_, _||_}
-use Prim.Native.Nat.{ℕ, _+_, _-_}
+use mathlib.Core.Path.{_≡_, refl, sym, ap, _∙_}
+use mathlib.Core.Logic.{_⊎_, inl, inr}
+use mathlib.Core.Bool.{Bool, true, false, _&&_, _||_, and-false}
+use Prim.Native.Nat.{ℕ, _+_, _-_, _/_, _≤_, _<_}
+use native.Mathlib.Omega.{arith}
 use lib.Dec.{eqb}
 use borrow.Author.Tests.{eq-eqb, ne-eqb}
-use Rattle.token.specs.Token.{isSolid, sameLetter}
+use Rattle.plain.specs.Choice.{select}
+use Rattle.plain.proofs.Tests.{tested, and-both, and-false-left, and-false-right}
+use Rattle.token.specs.Token.{isWhitespace, isSolid, sameLetter, classKind, classOf}
+use Rattle.token.proofs.Bytes.{class-kind, kind-small, bracketOf, kind-bracket, class-small}
 use Rattle.syntax.specs.Cut.{isWanted, isStray, takenIn, turnOf}
 use Rattle.syntax.specs.declared.walker.Search.{Search}
 use Rattle.syntax.specs.declared.walker.Turn.{Turn}
 use Rattle.syntax.specs.declared.walker.Turn.the-variants as Turn
+use Rattle.syntax.proofs.Marks.{markedClass}
 
 pub turn-wanted : (x b : ℕ) (s : Search) → isWanted x b s ≡ true → turnOf x b s ≡ Turn.Cut
 unfolding turnOf
@@ -22,64 +28,115 @@ pub turn-on : (x b : ℕ) (s : Search) → isWanted x b s ≡ false → isStray 
 unfolding turnOf
 turn-on x b s w t = rw (w, t)
 
--- the wanted byte, as the code tests it: any one test that fails decides
-third-fails : (p q r t : Bool) → r ≡ false → false ≡ (p && q && r && t)
-third-fails true true r t e = rw e
-third-fails true false r t e = refl
-third-fails false q r t e = refl
+-- Outside brackets and after some byte: here the wanted character is the cut. The first test that fails decides.
+module _ (s : Search) where
+  abbrev pub free : Bool
+  free = s .seen && eqb (s .parens) 0 && eqb (s .braces) 0
 
-second-fails : (p q r t : Bool) → q ≡ false → false ≡ (p && q && r && t)
-second-fails true q r t e = rw e
-second-fails false q r t e = refl
+  pub free-unseen : s .seen ≡ false → false ≡ free
+  free-unseen e = rw e
 
-module _ (x b : ℕ) (s : Search) where
-  pub wanted-unseen : s .seen ≡ false → false ≡ isWanted x b s
+  pub free-in-parens : (s .parens ≡ 0 → ⊥) → false ≡ free
+  free-in-parens n = rw (ne-eqb (s .parens) 0 n, and-false)
+
+  pub free-outside : s .seen ≡ true → s .parens ≡ 0 → eqb (s .braces) 0 ≡ free
+  free-outside e z = rw (e, eq-eqb (s .parens) 0 z)
+
+-- A byte that is not the cut, by its kind, which the code reads off its class. It is solid, or something has been seen.
+module _ (class b : ℕ) (s : Search) (below : b < 256) (is : class ≡ classOf b) (seen : (s .seen || isSolid b) ≡ true) where
+  abbrev nested : Turn
+  nested = select (isStray b s) Turn.Stray (Turn.On (takenIn b s))
+
+  -- the search goes on with these nestings
+  abbrev on : ℕ → ℕ → Turn
+  on p q = Turn.On (record { seen = true; parens = p; braces = q })
+
+  kind : class / 256 ≡ classKind b
+  kind = ap (λ (n : ℕ). n / 256) is ∙ class-kind b below
+
+  bracket : (n : ℕ) → class / 256 ≡ n → 2 ≤ n → b ≡ bracketOf n
+  bracket n e l = kind-bracket b (omega (arith, kind)) ∙ ap bracketOf (sym kind ∙ e)
+
+  no-bracket : class / 256 < 2 → (o : ℕ) → 2 ≤ classKind o → b ≡ o → ⊥
+  no-bracket h o l e = omega (arith, kind, ap classKind e)
+
+  pub nest-none : class / 256 < 2 → on (s .parens) (s .braces) ≡ nested
+  unfolding isStray takenIn classKind isWhitespace
+  nest-none h =
+      rw (
+        seen,
+        ne-eqb b 40 (no-bracket h 40 (omega arith)),
+        ne-eqb b 41 (no-bracket h 41 (omega arith)),
+        ne-eqb b 123 (no-bracket h 123 (omega arith)),
+        ne-eqb b 125 (no-bracket h 125 (omega arith)),
+      )
+
+  pub nest-open-paren : class / 256 ≡ 2 → on (s .parens + 1) (s .braces) ≡ nested
+  unfolding isStray takenIn
+  nest-open-paren e = rw (seen, bracket 2 e (omega arith))
+
+  pub nest-stray-paren : class / 256 ≡ 3 → s .parens ≡ 0 → Turn.Stray ≡ nested
+  unfolding isStray
+  nest-stray-paren e z = rw (bracket 3 e (omega arith), eq-eqb (s .parens) 0 z)
+
+  pub nest-close-paren : class / 256 ≡ 3 → (s .parens ≡ 0 → ⊥) → on (s .parens - 1) (s .braces) ≡ nested
+  unfolding isStray takenIn
+  nest-close-paren e n = rw (seen, bracket 3 e (omega arith), ne-eqb (s .parens) 0 n)
+
+  pub nest-open-brace : class / 256 ≡ 4 → on (s .parens) (s .braces + 1) ≡ nested
+  unfolding isStray takenIn
+  nest-open-brace e = rw (seen, bracket 4 e (omega arith))
+
+  pub nest-stray-brace : class / 256 ≡ 5 → s .braces ≡ 0 → Turn.Stray ≡ nested
+  unfolding isStray
+  nest-stray-brace e z = rw (bracket 5 e (omega arith), eq-eqb (s .braces) 0 z)
+
+  pub nest-close-brace : class / 256 ≡ 5 → (s .braces ≡ 0 → ⊥) → on (s .parens) (s .braces - 1) ≡ nested
+  unfolding isStray takenIn
+  nest-close-brace e n = rw (seen, bracket 5 e (omega arith), ne-eqb (s .braces) 0 n)
+
+  -- no kind is greater
+  pub kinds-end : 5 ≤ class / 256 → class / 256 ≡ 5
+  kinds-end l = omega (arith, kind, kind-small b)
+
+-- Any byte, by its class in the table in which the wanted one is marked: a mark tells that the letter is the same.
+module _ (class x b : ℕ) (s : Search) (below : b < 256) (is : class ≡ markedClass x b) where
+  abbrev Read : Type 0
+  Read = ((sameLetter b x ≡ true) × (class ≡ classOf b + 2048)) ⊎ ((sameLetter b x ≡ false) × (class ≡ classOf b))
+
+  read : Read
+  read = go (tested (sameLetter b x))
+    where
+      go : (sameLetter b x ≡ true) ⊎ (sameLetter b x ≡ false) → Read
+      go (inl e) = inl (e, is ∙ rw e)
+      go (inr e) = inr (e, is ∙ rw e)
+
+  unmarked : class < 2048 → (sameLetter b x ≡ false) × (class ≡ classOf b)
+  unmarked h = go read
+    where
+      go : Read → (sameLetter b x ≡ false) × (class ≡ classOf b)
+      go (inl e) = absurd (omega (arith, e .1))
+      go (inr e) = e
+
+  marked : 2048 ≤ class → (sameLetter b x ≡ true) × (class ≡ classOf b + 2048)
+  marked h = go read
+    where
+      go : Read → (sameLetter b x ≡ true) × (class ≡ classOf b + 2048)
+      go (inl e) = e
+      go (inr e) = absurd (omega (arith, e .1, class-small b below))
+
+  pub turn-cut : 2048 ≤ class → free s ≡ true → Turn.Cut ≡ turnOf x b s
   unfolding isWanted
-  wanted-unseen e = rw (e, isWanted)
+  turn-cut h e = sym (turn-wanted x b s (and-both (free s) (sameLetter b x) e (marked h .0)))
 
-  pub wanted-in-parens : (s .parens ≡ 0 → ⊥) → false ≡ isWanted x b s
+  nests : isWanted x b s ≡ false → select (isStray b s) Turn.Stray (Turn.On (takenIn b s)) ≡ turnOf x b s
+  unfolding turnOf
+  nests e = rw e
+
+  pub turn-unmarked : (r : Turn) → class < 2048 → (class ≡ classOf b → r ≡ select (isStray b s) Turn.Stray (Turn.On (takenIn b s))) → r ≡ turnOf x b s
   unfolding isWanted
-  wanted-in-parens n = second-fails (s .seen) (eqb (s .parens) 0) (eqb (s .braces) 0) (sameLetter b x) (ne-eqb (s .parens) 0 n)
+  turn-unmarked r h e = e (unmarked h .1) ∙ nests (and-false-right (free s) (sameLetter b x) (unmarked h .0))
 
-  pub wanted-in-braces : (s .braces ≡ 0 → ⊥) → false ≡ isWanted x b s
+  pub turn-nested : (r : Turn) → 2048 ≤ class → free s ≡ false → (class - 2048 ≡ classOf b → r ≡ select (isStray b s) Turn.Stray (Turn.On (takenIn b s))) → r ≡ turnOf x b s
   unfolding isWanted
-  wanted-in-braces n = third-fails (s .seen) (eqb (s .parens) 0) (eqb (s .braces) 0) (sameLetter b x) (ne-eqb (s .braces) 0 n)
-
-  pub wanted-outside : s .seen ≡ true → s .parens ≡ 0 → s .braces ≡ 0 → sameLetter b x ≡ isWanted x b s
-  unfolding isWanted
-  wanted-outside e p q = rw (isWanted, e, eq-eqb (s .parens) 0 p, eq-eqb (s .braces) 0 q)
-
--- by the byte itself, as the code tests it
-module _ (x b : ℕ) (s : Search) (unwanted : isWanted x b s ≡ false) where
-  pub turn-stray-paren : b ≡ 41 → s .parens ≡ 0 → Turn.Stray ≡ turnOf x b s
-  unfolding turnOf isStray
-  turn-stray-paren e z = rw (unwanted, e, eq-eqb (s .parens) 0 z)
-
-  pub turn-stray-brace : b ≡ 125 → s .braces ≡ 0 → Turn.Stray ≡ turnOf x b s
-  unfolding turnOf isStray
-  turn-stray-brace e z = rw (unwanted, e, eq-eqb (s .braces) 0 z)
-
-  module _ (v : Bool) (seen : v ≡ (s .seen || isSolid b)) where
-    -- the search that takes b in, with these nestings
-    abbrev on : ℕ → ℕ → Turn
-    on p q = Turn.On (record { seen = v; parens = p; braces = q })
-
-    pub turn-open-paren : b ≡ 40 → on (s .parens + 1) (s .braces) ≡ turnOf x b s
-    unfolding turnOf isStray takenIn
-    turn-open-paren e = rw (seen, unwanted, e)
-
-    pub turn-close-paren : b ≡ 41 → (s .parens ≡ 0 → ⊥) → on (s .parens - 1) (s .braces) ≡ turnOf x b s
-    unfolding turnOf isStray takenIn
-    turn-close-paren e n = rw (seen, unwanted, e, ne-eqb (s .parens) 0 n)
-
-    pub turn-open-brace : b ≡ 123 → on (s .parens) (s .braces + 1) ≡ turnOf x b s
-    unfolding turnOf isStray takenIn
-    turn-open-brace e = rw (seen, unwanted, e)
-
-    pub turn-close-brace : b ≡ 125 → (s .braces ≡ 0 → ⊥) → on (s .parens) (s .braces - 1) ≡ turnOf x b s
-    unfolding turnOf isStray takenIn
-    turn-close-brace e n = rw (seen, unwanted, e, ne-eqb (s .braces) 0 n)
-
-    pub turn-other : (b ≡ 40 → ⊥) → (b ≡ 41 → ⊥) → (b ≡ 123 → ⊥) → (b ≡ 125 → ⊥) → on (s .parens) (s .braces) ≡ turnOf x b s
-    unfolding turnOf isStray takenIn
-    turn-other p q r t = rw (seen, unwanted, ne-eqb b 40 p, ne-eqb b 41 q, ne-eqb b 123 r, ne-eqb b 125 t)
+  turn-nested r h f e = e (omega (arith, marked h .1)) ∙ nests (and-false-left (free s) (sameLetter b x) f)

@@ -2,20 +2,18 @@
 // A walker is a value, and every move hands back the moved one. At every move a limit past the line is first held
 // to the line's end, then a cursor past the limit to the limit, so no move refuses: any cursor, limit, line and byte.
 ghost use mathlib.Core.Path.{_≡_};
-ghost use mathlib.Core.Bool.{_||_};
-ghost use Prim.Native.Nat.{_+_, _<_, _≤_, _^_, min};
+ghost use mathlib.Core.Bool.{true, _&&_, _||_};
+ghost use Prim.Native.Nat.{ℕ, _+_, _<_, _≤_, _^_, min};
+ghost use lib.Dec.{eqb};
 ghost use lib.ListN.{length};
+ghost use Rattle.plain.specs.Choice.{select};
+ghost use Rattle.plain.specs.Lists.{listed};
 ghost use Rattle.syntax.specs.Walker.{held, over, movedTo, limited, usefulFrom, useful, stepSays, expectChar, expectWhitespace};
-ghost use Rattle.token.specs.Token.{isSolid};
-ghost use Rattle.syntax.specs.Cut.{isWanted, fresh, turnOf, cutSays, cutFrom, cut};
+ghost use Rattle.token.specs.Token.{isSolid, sameLetter, classOf};
+ghost use Rattle.syntax.specs.Cut.{isStray, takenIn, turnOf, fresh, cutSays, cutFrom, cut};
 
-const OPEN_PAREN: u8 = 40;
-
-const CLOSE_PAREN: u8 = 41;
-
-const OPEN_BRACE: u8 = 123;
-
-const CLOSE_BRACE: u8 = 125;
+// What marks a class in the table that is laid for a search: more than any class is.
+const MARK: u16 = 2048;
 
 pub struct Walker {
     // The place of the next byte.
@@ -191,9 +189,47 @@ fn skip_whitespace(line: &[u8], from: usize, end: usize) -> usize
     at
 }
 
-// Whether the byte is the lookahead character, after some other than whitespace and outside brackets.
-fn is_wanted(s: Search, b: u8, wanted: u8) -> bool
-    ensures { λ r. ⌜ r ≡ isWanted wanted b s ⌝ }
+// The same for a search, which has the byte table laid.
+fn skip_by_class(line: &[u8], classes: &[u16; 256], from: usize, end: usize) -> usize
+    requires { ⌜ from ≤ end ⌝ }
+    requires { ⌜ end ≤ length (now line) ⌝ }
+    requires { ⌜ now classes ≡ listed 256 classOf ⌝ }
+    ensures { λ r. ⌜ r ≡ usefulFrom (now (line .entry)) from end ⌝ }
+    ensures { λ r. ⌜ r ≤ end ⌝ }
+{
+    let mut at = from;
+    while at < end {
+        let b = line[at] as usize;
+        if classes[b] / token::PARTNERS != token::WHITESPACE {
+            return at;
+        }
+        at += 1;
+    }
+    at
+}
+
+// Marks the lookahead character in the table, in both cases: its partner, and the capital of that if there is one.
+fn mark(classes: &mut [u16; 256], wanted: u8)
+    requires { ⌜ now classes ≡ listed 256 classOf ⌝ }
+    ensures { λ r. ⌜ now (classes .exit) ≡ listed 256 (λ (b : ℕ). select (sameLetter b wanted) (classOf b + 2048) (classOf b)) ⌝ }
+{
+    let at = wanted as usize;
+    let partner = classes[at] % token::PARTNERS;
+    let low = partner as usize;
+    classes[low] = classes[low] + MARK;
+    if partner < token::STEP {
+        return;
+    }
+    let capital = (partner - token::STEP) as usize;
+    if classes[capital] != partner {
+        return;
+    }
+    classes[capital] = partner + MARK;
+}
+
+// Whether the lookahead character would be the cut here: after some byte other than whitespace, and outside brackets.
+fn is_free(s: Search) -> bool
+    ensures { λ r. ⌜ r ≡ (s .seen && eqb (s .parens) 0 && eqb (s .braces) 0) ⌝ }
 {
     if !s.seen {
         return false;
@@ -201,77 +237,87 @@ fn is_wanted(s: Search, b: u8, wanted: u8) -> bool
     if s.parens != 0 {
         return false;
     }
-    if s.braces != 0 {
-        return false;
-    }
-    token::eq_ignore_ascii_case(b, wanted)
+    s.braces == 0
 }
 
-fn has_seen(seen: bool, b: u8) -> bool
-    ensures { λ r. ⌜ r ≡ (seen || isSolid b) ⌝ }
-{
-    if seen {
-        return true;
-    }
-    !token::is_whitespace(b)
-}
-
-fn on(seen: bool, parens: usize, braces: usize) -> Turn
-    ensures { λ r. ⌜ r ≡ Turn.On (record { seen = seen; parens = parens; braces = braces }) ⌝ }
+// The search goes on with these nestings, and something has been seen.
+fn on(parens: usize, braces: usize) -> Turn
+    ensures { λ r. ⌜ r ≡ Turn.On (record { seen = true; parens = parens; braces = braces }) ⌝ }
 {
     Turn::On(Search {
-        seen,
+        seen: true,
         parens,
         braces,
     })
 }
 
-// One byte of the search. The character's test comes before the nesting rules for the same byte.
-fn take_in(s: Search, b: u8, wanted: u8) -> Turn
+// The nesting rules for a byte of this class that is not the cut: the first byte other than whitespace, or one after it.
+fn nest(s: Search, class: u16) -> Turn
     requires { ⌜ s .parens + 1 < 2 ^ 64 ⌝ }
     requires { ⌜ s .braces + 1 < 2 ^ 64 ⌝ }
-    ensures { λ r. ⌜ r ≡ turnOf wanted b s ⌝ }
+    ensures { λ r. ⌜ ((b : ℕ) → b < 256 → class ≡ classOf b → (s .seen || isSolid b) ≡ true → r ≡ select (isStray b s) Turn.Stray (Turn.On (takenIn b s))) ⌝ }
 {
-    if is_wanted(s, b, wanted) {
-        return Turn::Cut;
-    }
-    let seen = has_seen(s.seen, b);
     let parens = s.parens;
     let braces = s.braces;
-    if b == OPEN_PAREN {
-        return on(seen, parens + 1, braces);
+    let kind = class / token::PARTNERS;
+    if kind < token::OPEN_PAREN {
+        return on(parens, braces);
     }
-    if b == CLOSE_PAREN {
+    if kind < token::CLOSE_PAREN {
+        return on(parens + 1, braces);
+    }
+    if kind < token::OPEN_BRACE {
         if parens == 0 {
             return Turn::Stray;
         }
-        return on(seen, parens - 1, braces);
+        return on(parens - 1, braces);
     }
-    if b == OPEN_BRACE {
-        return on(seen, parens, braces + 1);
+    if kind < token::CLOSE_BRACE {
+        return on(parens, braces + 1);
     }
-    if b == CLOSE_BRACE {
-        if braces == 0 {
-            return Turn::Stray;
-        }
-        return on(seen, parens, braces - 1);
+    if braces == 0 {
+        return Turn::Stray;
     }
-    on(seen, parens, braces)
+    on(parens, braces - 1)
 }
 
+// One byte of the search, by its class in the marked table. Most bytes are neither brackets nor marked, and that is tested
+// first. The character's test comes before the nesting rules for the same byte.
+fn take_in(s: Search, class: u16) -> Turn
+    requires { ⌜ s .parens + 1 < 2 ^ 64 ⌝ }
+    requires { ⌜ s .braces + 1 < 2 ^ 64 ⌝ }
+    ensures { λ r. ⌜ ((x b : ℕ) → b < 256 → class ≡ select (sameLetter b x) (classOf b + 2048) (classOf b) → (s .seen || isSolid b) ≡ true → r ≡ turnOf x b s) ⌝ }
+{
+    if class / token::PARTNERS < token::OPEN_PAREN {
+        return on(s.parens, s.braces);
+    }
+    if class < MARK {
+        return nest(s, class);
+    }
+    if is_free(s) {
+        return Turn::Cut;
+    }
+    nest(s, class - MARK)
+}
+
+// The table is laid once for the search, and each byte looked up in it once. Whitespace before the first other byte changes
+// nothing, so it is skipped; from there on something has been seen after every byte.
 fn find_cut(line: &[u8], from: usize, end: usize, wanted: u8) -> Lookahead
     requires { ⌜ from ≤ end ⌝ }
     requires { ⌜ end ≤ length (now line) ⌝ }
     ensures { λ r. ⌜ cutSays r ≡ cutFrom (now (line .entry)) wanted from end fresh ⌝ }
 {
-    let mut at = from;
+    let mut classes = token::classes();
+    let mut at = skip_by_class(line, &classes, from, end);
+    mark(&mut classes, wanted);
     let mut s = Search {
         seen: false,
         parens: 0,
         braces: 0,
     };
     while at < end {
-        match take_in(s, line[at], wanted) {
+        let b = line[at] as usize;
+        match take_in(s, classes[b]) {
             Turn::Cut => return Lookahead::At(at),
             Turn::Stray => return Lookahead::Nothing,
             Turn::On(next) => {

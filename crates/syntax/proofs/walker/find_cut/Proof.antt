@@ -1,42 +1,61 @@
--- The loop's invariant: the cut from here on, with what has passed, is the cut from the start; and no nesting is
--- greater than the number of bytes passed.
+-- The loop begins at the first byte other than whitespace; at each turn the cut from here on, with what has passed, is the cut
+-- from the start (`Searching`). The table was marked for the wanted byte, so a turn by class is the definition's turn.
 use borrow.Author.Needs.{needs}
-use mathlib.Core.Path.{_≡_, refl, sym, ap, _∙_}
-use Prim.Native.Nat.{ℕ, _≤_, _-_, _+_}
+use mathlib.Core.Path.{_≡_, sym, ap, _∙_}
+use Prim.Native.Nat.{ℕ, _-_}
 use native.Mathlib.Omega.{arith}
 use denote.Ref.{now}
 use Rattle.syntax.specs.Cut.{cutFrom}
 use Rattle.syntax.specs.declared.walker.Turn.the-variants as Turn
-use Rattle.syntax.proofs.Cuts.{cut-end, cut-step, turn-grows}
+use Rattle.syntax.proofs.Marks.{marked-read}
+use Rattle.syntax.proofs.Cuts.{Searching, search-begins, search-goes-on, cut-end, cut-step}
 use Rattle.syntax.proofs.walker.find_cut.Statement.{statement}
 use Rattle.syntax.proofs.walker.find_cut.Tie as tie
 
 abbrev Inv-loop : tie.InvT-loop
-Inv-loop line from end wanted at₀ s₀ at s = (from ≤ at) × ((at ≤ end) × ((cutFrom line wanted at end s ≡ cutFrom line wanted from end s₀) × ((s .parens + from ≤ at) × (s .braces + from ≤ at))))
+Inv-loop line from end wanted classes at₀ s₀ at s = Searching line wanted from end at s
 
 abbrev μ-loop : tie.MeasureT-loop
-μ-loop line from end wanted at₀ s₀ at s = end - at
+μ-loop line from end wanted classes at₀ s₀ at s = end - at
+
+classes-requires : tie.Need-classes-requires Inv-loop μ-loop
+classes-requires c κs = search needs
+
+skip-by-class-requires : tie.Need-skip-by-class-requires Inv-loop μ-loop
+skip-by-class-requires c κs = (search needs, (search needs, c .before .classes .ensures))
+
+mark-requires : tie.Need-mark-requires Inv-loop μ-loop
+mark-requires c κs = c .before .before .before .classes .ensures
 
 loop-holds : tie.Need-loop-holds Inv-loop μ-loop
-loop-holds c = (omega arith, (omega arith, (refl, (omega arith, omega arith))))
+loop-holds c = search-begins _ _ _ _ (c .before .before .before .before .before .before .pre .1) _ (c .before .before .before .before .before .before .pre .0) (c .before .before .skip-by-class .ensures .0)
 
-shared-slice-read-take-in : tie.Need-shared-slice-read-take-in Inv-loop μ-loop
-shared-slice-read-take-in c = search needs
+shared-slice-read-b : tie.Need-shared-slice-read-b Inv-loop μ-loop
+shared-slice-read-b c = search needs
+
+cast-b : tie.Need-cast-b Inv-loop μ-loop
+cast-b c = omega (arith, c .shared-slice-known2 .given (c .before .before .loop .at))
+
+mul-take-in : tie.Need-mul-take-in Inv-loop μ-loop
+mul-take-in c = omega (arith, c .shared-slice-known2 .given (c .before .before .loop .at))
+
+array-read-take-in : tie.Need-array-read-take-in Inv-loop μ-loop
+array-read-take-in c = omega (arith, c .shared-slice-known2 .given (c .before .before .loop .at))
 
 take-in-requires : tie.Need-take-in-requires Inv-loop μ-loop
-take-in-requires c κs = omega arith
+take-in-requires c κs = (omega (arith, c .before .before .loop .inv .parens), omega (arith, c .before .before .loop .inv .braces))
 
 enum-told : tie.Need-enum-told Inv-loop μ-loop
 enum-told c = search needs
 
 returns : tie.Need-returns Inv-loop μ-loop
-returns c = sym (cut-step _ _ _ (c .before .before .before .before .before .before .before .pre .1) _ _ Turn.Cut (c .before .before .before .before .loop-test .taken) (sym (c .enum-told .given .1) ∙ c .before .before .take-in .ensures)) ∙ c .before .before .before .before .before .loop .inv .1 .1 .0
+returns c = sym (cut-step _ _ _ (c .before .before .before .before .before .before .before .before .before .before .before .before .pre .1) _ _ Turn.Cut (c .before .before .before .before .loop-test .taken) (sym (c .enum-told .given .1) ∙ c .before .before .take-in .ensures (c .before .before .before .before .before .before .before .before .before .before .before .before .args .wanted) _ (c .before .before .before .shared-slice-known2 .given _ .fits) (marked-read _ _ (c .before .before .before .before .before .before .mark .ensures) _ (c .before .before .before .shared-slice-known2 .given _ .fits)) (c .before .before .before .before .before .loop .inv .sees (c .before .before .before .before .loop-test .taken)))) ∙ c .before .before .before .before .before .loop .inv .same
 
 enum-told-2 : tie.Need-enum-told-2 Inv-loop μ-loop
 enum-told-2 c = search needs
 
 returns-2 : tie.Need-returns-2 Inv-loop μ-loop
-returns-2 c = sym (cut-step _ _ _ (c .before .before .before .before .before .before .before .pre .1) _ _ Turn.Stray (c .before .before .before .before .loop-test .taken) (sym (c .enum-told2 .given .1) ∙ c .before .before .take-in .ensures)) ∙ c .before .before .before .before .before .loop .inv .1 .1 .0
+returns-2 c = sym (cut-step _ _ _ (c .before .before .before .before .before .before .before .before .before .before .before .before .pre .1) _ _ Turn.Stray (c .before .before .before .before .loop-test .taken) (sym (c .enum-told2 .given .1) ∙ c .before .before .take-in .ensures (c .before .before .before .before .before .before .before .before .before .before .before .before .args .wanted) _ (c .before .before .before .shared-slice-known2 .given _ .fits) (marked-read _ _ (c .before .before .before .before .before .before .mark .ensures) _ (c .before .before .before .shared-slice-known2 .given _ .fits)) (c .before .before .before .before .before .loop .inv .sees (c .before .before .before .before .loop-test .taken)))) ∙ c .before .before .before .before .before .loop .inv .same
 
 enum-known-next : tie.Need-enum-known-next Inv-loop μ-loop
 enum-known-next c = search needs
@@ -48,25 +67,10 @@ loop-less : tie.Need-loop-less Inv-loop μ-loop
 loop-less c = search needs
 
 loop-again : tie.Need-loop-again Inv-loop μ-loop
-loop-again c =
-    let on = sym (c .before .next .given .1) ∙ c .before .before .before .take-in .ensures in
-    let grows = turn-grows _ _ _ _ on in (
-      omega arith,
-      (
-        omega arith,
-        (
-          sym (cut-step _ _ _ (c .before .before .before .before .before .before .before .before .pre .1) _ _ (Turn.On (c .before .next .given .0 .0)) (c .before .before .before .before .before .loop-test .taken) on) ∙ c .before .before .before .before .before .before .loop .inv .1 .1 .0,
-          (omega (arith, grows .0), omega (arith, grows .1)),
-        ),
-      ),
-    )
+loop-again c = search-goes-on _ _ _ _ (c .before .before .before .before .before .before .before .before .before .before .before .before .before .pre .1) _ _ _ (c .before .before .before .before .before .before .loop .inv) (c .before .before .before .before .before .loop-test .taken) (sym (c .before .next .given .1) ∙ c .before .before .before .take-in .ensures (c .before .before .before .before .before .before .before .before .before .before .before .before .before .args .wanted) _ (c .before .before .before .before .shared-slice-known2 .given _ .fits) (marked-read _ _ (c .before .before .before .before .before .before .before .mark .ensures) _ (c .before .before .before .before .shared-slice-known2 .given _ .fits)) (c .before .before .before .before .before .before .loop .inv .sees (c .before .before .before .before .before .loop-test .taken)))
 
 returns-3 : tie.Need-returns-3 Inv-loop μ-loop
-returns-3 c =
-    let here : c .before .before .before .args .end ≡ c .before .loop .at = omega arith in
-    sym (cut-end _ _ _ (c .before .before .before .pre .1) _)
-    ∙ ap (λ (n : ℕ). cutFrom (now (c .before .before .before .args .line)) (c .before .before .before .args .wanted) n (c .before .before .before .args .end) (c .before .loop .s)) here
-    ∙ c .before .loop .inv .1 .1 .0
+returns-3 c = let here : c .before .before .before .before .before .before .before .before .args .end ≡ c .before .loop .at = omega (arith, c .before .loop .inv .within) in sym (cut-end _ _ _ (c .before .before .before .before .before .before .before .before .pre .1) _) ∙ ap (λ (n : ℕ). cutFrom (now (c .before .before .before .before .before .before .before .before .args .line)) (c .before .before .before .before .before .before .before .before .args .wanted) n (c .before .before .before .before .before .before .before .before .args .end) (c .before .loop .s)) here ∙ c .before .loop .inv .same
 
 pub find-cut-spec : {M : Type 1} → statement M
 find-cut-spec =
@@ -74,8 +78,14 @@ find-cut-spec =
     (tie.spec
     Inv-loop
     μ-loop
+    classes-requires
+    skip-by-class-requires
+    mark-requires
     loop-holds
-    shared-slice-read-take-in
+    shared-slice-read-b
+    cast-b
+    mul-take-in
+    array-read-take-in
     take-in-requires
     enum-told
     returns
