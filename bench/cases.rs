@@ -29,7 +29,8 @@ fn pack(rulesets: &[Vec<String>]) -> Vec<u16> {
     table
 }
 
-/// Where a parser would end: at the first comma or closer outside brackets, or the limit; a decimal at its last digit.
+/// Where a parser would end: at the first comma or closer outside brackets of either kind, or the limit; a decimal at its last
+/// digit.
 fn sheet(line: &[u8]) -> Vec<u8> {
     let n = line.len();
     let skip = |c: usize, l: usize| (c..l).find(|i| line[*i] != b' ').unwrap_or(l);
@@ -38,9 +39,9 @@ fn sheet(line: &[u8]) -> Vec<u8> {
         let mut nesting = 0;
         for at in start..l {
             match line[at] {
-                b'(' => nesting += 1,
-                b')' if nesting == 0 => return (start, at),
-                b')' => nesting -= 1,
+                b'(' | b'{' => nesting += 1,
+                b')' | b'}' if nesting == 0 => return (start, at),
+                b')' | b'}' => nesting -= 1,
                 b',' if nesting == 0 => return (start, at),
                 _ => {}
             }
@@ -131,10 +132,25 @@ fn nested(rules: usize) -> Kind {
     }
 }
 
+/// A character is sought after the first parameter of every rule: few names, each with two rules for eight characters.
+fn bracketed() -> Vec<Vec<String>> {
+    const NAMES: usize = 4;
+    let characters = [',', '+', '*', '-', '/', '&', '|', ':'];
+    let of = |i: usize| {
+        let (name, character) = (mnemonic(i / 16), characters[i / 2 % characters.len()]);
+        format!("{name} {{}}{character}{}", ["{}", "({})"][i % 2])
+    };
+    vec![(0..16 * NAMES).map(of).collect()]
+}
+
+/// Nearly half of it are brackets, of both kinds, up to three deep.
+const BRACKETS: &str = "((a+b)*{c-(d/e)})";
+
 const KINDS: [(&str, fn(usize) -> Kind); 3] = [("plain", plain), ("overlapping", overlapping), ("nested", nested)];
 const SIZES: [usize; 3] = [8, 64, 512];
 
-/// Every kind of table, of 8, 64 and 512 rules, with both lines.
+/// Every kind of table, of 8, 64 and 512 rules, with both lines; then 64 rules on lines full of brackets, in which most of the
+/// characters stand within brackets alone, so that the search for the cut goes through the whole line.
 pub fn all() -> Vec<Case> {
     let mut cases = Vec::new();
     for (kind, make) in KINDS {
@@ -149,6 +165,15 @@ pub fn all() -> Vec<Case> {
                 });
             }
         }
+    }
+    for copies in [5, 6] {
+        let line = format!("{} {},(4)", mnemonic(2), vec![BRACKETS; copies].join("+"));
+        cases.push(Case {
+            name: format!("bracketed 64, {} bytes", line.len()),
+            table: pack(&bracketed()),
+            sheet: sheet(line.as_bytes()),
+            line: line.into_bytes(),
+        });
     }
     cases
 }
