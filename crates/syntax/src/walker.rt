@@ -197,15 +197,15 @@ fn skip_by_class(line: &[u8], classes: &[u16; 256], from: usize, end: usize) -> 
     ensures { λ r. ⌜ r ≡ usefulFrom (now (line .entry)) from end ⌝ }
     ensures { λ r. ⌜ r ≤ end ⌝ }
 {
-    let mut at = from;
-    while at < end {
-        let b = line[at] as usize;
+    let mut here = from;
+    while here < end {
+        let b = line[here] as usize;
         if classes[b] / token::PARTNERS != token::WHITESPACE {
-            return at;
+            return here;
         }
-        at += 1;
+        here += 1;
     }
-    at
+    here
 }
 
 // Marks the lookahead character in the table, in both cases: its partner, and the capital of that if there is one.

@@ -54,6 +54,9 @@ kind-whitespace b = go (isWhitespace b) (eqb b 40) (eqb b 41) (eqb b 123) (eqb b
 pub class-whitespace : (b c : ℕ) → b < 256 → c ≡ classOf b → eqb (c / 256) 1 ≡ isWhitespace b
 class-whitespace b c h e = ap (λ (n : ℕ). eqb (n / 256) 1) e ∙ ap (λ (n : ℕ). eqb n 1) (class-kind b h) ∙ kind-whitespace b
 
+pub laid-whitespace : (t : List ℕ) → t ≡ listed 256 classOf → (b : ℕ) → b < 256 → eqb (getD t b 0 / 256) 1 ≡ isWhitespace b
+laid-whitespace t e b h = class-whitespace b (getD t b 0) h (class-rule t e b h)
+
 -- the bracket of each kind; 0 for the kinds that have none
 abbrev pub bracketOf : ℕ → ℕ
 bracketOf k = getD (0 ∷ 0 ∷ 40 ∷ 41 ∷ 123 ∷ 125 ∷ []) k 0

@@ -1,21 +1,20 @@
 -- The loop of `skip_whitespace`, with the same invariant; whether a byte is whitespace is read off its class.
 use borrow.Author.Needs.{needs}
-use mathlib.Core.Path.{_≡_, refl, sym, ap, _∙_}
-use Prim.Native.Nat.{ℕ, _≤_, _-_}
+use mathlib.Core.Path.{_≡_, refl, sym, _∙_}
+use Prim.Native.Nat.{_≤_, _-_}
 use native.Mathlib.Omega.{arith}
-use denote.Ref.{now}
 use borrow.Author.Tests.{eq-eqb, ne-eqb}
-use Rattle.token.proofs.Bytes.{class-rule, class-whitespace}
+use Rattle.token.proofs.Bytes.{laid-whitespace}
 use Rattle.syntax.specs.Walker.{usefulFrom}
-use Rattle.syntax.proofs.Useful.{useful-end, useful-here, useful-later}
+use Rattle.syntax.proofs.Useful.{skip-stops, skip-goes-on, skip-ends}
 use Rattle.syntax.proofs.walker.skip_by_class.Statement.{statement}
 use Rattle.syntax.proofs.walker.skip_by_class.Tie as tie
 
 abbrev Inv-loop : tie.InvT-loop
-Inv-loop line classes from end at₀ at = (at ≤ end) × (usefulFrom line at end ≡ usefulFrom line from end)
+Inv-loop line classes from end here₀ here = (here ≤ end) × (usefulFrom line here end ≡ usefulFrom line from end)
 
 abbrev μ-loop : tie.MeasureT-loop
-μ-loop line classes from end at₀ at = end - at
+μ-loop line classes from end here₀ here = end - here
 
 loop-holds : tie.Need-loop-holds Inv-loop μ-loop
 loop-holds c = (omega arith, refl)
@@ -24,28 +23,28 @@ shared-slice-read-b : tie.Need-shared-slice-read-b Inv-loop μ-loop
 shared-slice-read-b c = search needs
 
 cast-b : tie.Need-cast-b Inv-loop μ-loop
-cast-b c = omega (arith, c .shared-slice-known .given (c .before .before .loop .at))
+cast-b c = omega (arith, c .shared-slice-known .given (c .before .before .loop .here))
 
 mul-if1 : tie.Need-mul-if1 Inv-loop μ-loop
-mul-if1 c = omega (arith, c .shared-slice-known .given (c .before .before .loop .at))
+mul-if1 c = omega (arith, c .shared-slice-known .given (c .before .before .loop .here))
 
 element-copy-out-if1 : tie.Need-element-copy-out-if1 Inv-loop μ-loop
-element-copy-out-if1 c = omega (arith, c .shared-slice-known .given (c .before .before .loop .at))
+element-copy-out-if1 c = omega (arith, c .shared-slice-known .given (c .before .before .loop .here))
 
 returns : tie.Need-returns Inv-loop μ-loop
-returns c = (sym (useful-here _ _ (search needs) _ (c .before .before .before .loop-test .taken) (sym (class-whitespace _ _ (c .before .before .shared-slice-known .given _ .fits) (class-rule _ (c .before .before .before .before .before .pre .1 .1) _ (c .before .before .shared-slice-known .given _ .fits))) ∙ ne-eqb _ 1 (c .if1 .taken))) ∙ c .before .before .before .before .loop .inv .1, omega arith)
+returns c = skip-stops _ _ _ (c .before .before .before .before .before .pre .1 .0) _ (c .before .before .before .before .loop .inv) (c .before .before .before .loop-test .taken) (sym (laid-whitespace _ (c .before .before .before .before .before .pre .1 .1) _ (c .before .before .shared-slice-known .given _ .fits)) ∙ ne-eqb _ 1 (c .if1 .taken))
 
-add-at : tie.Need-add-at Inv-loop μ-loop
-add-at c = search needs
+add-here : tie.Need-add-here Inv-loop μ-loop
+add-here c = search needs
 
 loop-less : tie.Need-loop-less Inv-loop μ-loop
 loop-less c = search needs
 
 loop-again : tie.Need-loop-again Inv-loop μ-loop
-loop-again c = (omega arith, useful-later _ _ (search needs) _ (c .before .before .before .loop-test .taken) (sym (class-whitespace _ _ (c .before .before .shared-slice-known .given _ .fits) (class-rule _ (c .before .before .before .before .before .pre .1 .1) _ (c .before .before .shared-slice-known .given _ .fits))) ∙ eq-eqb _ 1 (c .if1 .left)) ∙ c .before .before .before .before .loop .inv .1)
+loop-again c = skip-goes-on _ _ _ (c .before .before .before .before .before .pre .1 .0) _ (c .before .before .before .before .loop .inv) (c .before .before .before .loop-test .taken) (sym (laid-whitespace _ (c .before .before .before .before .before .pre .1 .1) _ (c .before .before .shared-slice-known .given _ .fits)) ∙ eq-eqb _ 1 (c .if1 .left))
 
 returns-2 : tie.Need-returns-2 Inv-loop μ-loop
-returns-2 c = let here : c .before .before .args .end ≡ c .before .loop .at = omega arith in (sym here ∙ sym (useful-end _ _ (search needs)) ∙ ap (λ (n : ℕ). usefulFrom (now (c .before .before .args .line)) n (c .before .before .args .end)) here ∙ c .before .loop .inv .1, omega arith)
+returns-2 c = skip-ends _ _ _ (c .before .before .pre .1 .0) _ (c .before .loop .inv) (c .loop-test .left)
 
 pub skip-by-class-spec : {M : Type 1} → statement M
 skip-by-class-spec =
@@ -59,7 +58,7 @@ skip-by-class-spec =
     mul-if1
     element-copy-out-if1
     returns
-    add-at
+    add-here
     loop-less
     loop-again
     returns-2)
