@@ -1,5 +1,5 @@
-//! The inputs: rule tables as a house would write them, by size and by kind, with a short and a long line for each, and
-//! programs of many lines.
+//! The inputs: rule tables as a house would write them, by size and by kind, with a short and a long line for each; one table
+//! made for the cut, on lines full of brackets; and programs of many lines.
 
 use crate::notation::rule;
 
@@ -132,25 +132,26 @@ fn nested(rules: usize) -> Kind {
     }
 }
 
-/// A character is sought after the first parameter of every rule: few names, each with two rules for eight characters.
-fn bracketed() -> Vec<Vec<String>> {
-    const NAMES: usize = 4;
+/// A character is sought after the first parameter of every rule: few names, each with two rules for each of eight characters.
+fn bracketed() -> Vec<String> {
     let characters = [',', '+', '*', '-', '/', '&', '|', ':'];
-    let of = |i: usize| {
-        let (name, character) = (mnemonic(i / 16), characters[i / 2 % characters.len()]);
-        format!("{name} {{}}{character}{}", ["{}", "({})"][i % 2])
+    let seconds = ["{}", "({})"];
+    let names = [0, 1, 2, 3].map(mnemonic);
+    let of = |name: &String| {
+        let of = |character| seconds.map(|second| format!("{name} {{}}{character}{second}"));
+        characters.into_iter().flat_map(of).collect::<Vec<_>>()
     };
-    vec![(0..16 * NAMES).map(of).collect()]
+    names.iter().flat_map(of).collect()
 }
 
-/// Nearly half of it are brackets, of both kinds, up to three deep.
+/// Nearly half of it is brackets, of both kinds, up to three deep.
 const BRACKETS: &str = "((a+b)*{c-(d/e)})";
 
 const KINDS: [(&str, fn(usize) -> Kind); 3] = [("plain", plain), ("overlapping", overlapping), ("nested", nested)];
 const SIZES: [usize; 3] = [8, 64, 512];
 
-/// Every kind of table, of 8, 64 and 512 rules, with both lines; then 64 rules on lines full of brackets, in which most of the
-/// characters stand within brackets alone, so that the search for the cut goes through the whole line.
+/// Every kind of table, of 8, 64 and 512 rules, with both lines; then 64 rules on lines full of brackets: six of the eight
+/// characters stand within brackets alone or nowhere, so that the search for them goes through the whole line.
 pub fn all() -> Vec<Case> {
     let mut cases = Vec::new();
     for (kind, make) in KINDS {
@@ -166,11 +167,12 @@ pub fn all() -> Vec<Case> {
             }
         }
     }
+    let rules = bracketed();
     for copies in [5, 6] {
         let line = format!("{} {},(4)", mnemonic(2), vec![BRACKETS; copies].join("+"));
         cases.push(Case {
-            name: format!("bracketed 64, {} bytes", line.len()),
-            table: pack(&bracketed()),
+            name: format!("bracketed {}, {} bytes", rules.len(), line.len()),
+            table: pack(&[rules.clone()]),
             sheet: sheet(line.as_bytes()),
             line: line.into_bytes(),
         });

@@ -94,6 +94,10 @@ listed-at n f i h = within (range 0 n) i (omega (arith, range-length 0 n)) ∙ a
     within (x ∷ xs) zero l = refl
     within (x ∷ xs) (suc k) l = within xs k (omega arith)
 
+-- an entry of a list that is known to be one
+pub listed-read : (n : ℕ) (f : ℕ → ℕ) (l : List ℕ) → l ≡ listed n f → (i : ℕ) → i < n → getD l i 0 ≡ f i
+listed-read n f l e i h = ap (λ (m : List ℕ). getD m i 0) e ∙ listed-at n f i h
+
 -- a list by its entries
 pub as-listed : (n : ℕ) (f : ℕ → ℕ) (xs : List ℕ) → length xs ≡ n → ((i : ℕ) → i < n → getD xs i 0 ≡ f i) → xs ≡ listed n f
 as-listed n f xs e h =

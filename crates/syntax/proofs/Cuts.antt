@@ -31,7 +31,7 @@ use Rattle.syntax.proofs.Turns.{turn-wanted, turn-stray, turn-on}
 -- ---- the scan's steps
 
 module _ (line : List ℕ) (x l : ℕ) (fits : l ≤ length line) where
-  pub cut-end : (s : Search) → cutFrom line x l l s ≡ none
+  cut-end : (s : Search) → cutFrom line x l l s ≡ none
   unfolding cutFrom searched
   cut-end s = ap (λ (bs : List ℕ). searched x bs l s) (slice-empty l line)
 
@@ -40,7 +40,7 @@ module _ (line : List ℕ) (x l : ℕ) (fits : l ≤ length line) where
   unfolding cutFrom searched
   unrolled i s h = ap (λ (bs : List ℕ). searched x bs i s) (slice-cons i l line 0 h fits)
 
-  pub cut-step : (i : ℕ) (s : Search) (t : Turn) → i < l → t ≡ turnOf x (byteAt line i) s
+  cut-step : (i : ℕ) (s : Search) (t : Turn) → i < l → t ≡ turnOf x (byteAt line i) s
       → cutFrom line x i l s ≡ follow t i (λ n. cutFrom line x (i + 1) l n)
   cut-step i s t h e =
       unrolled i s h
@@ -124,13 +124,23 @@ module _ (line : List ℕ) (x from end : ℕ) (fits : end ≤ length line) where
       place : UsefulPlace line (record { cursor = from; limit = end }) (usefulFrom line from end)
       place = useful-is line (record { cursor = from; limit = end }) (h, fits)
 
+  -- what a turn leads to
+  pub search-turns : (at : ℕ) (s : Search) (t : Turn) → Searching line x from end at s → at < end
+      → t ≡ turnOf x (byteAt line at) s → follow t at (λ n. cutFrom line x (at + 1) end n) ≡ cutFrom line x from end fresh
+  search-turns at s t now h e = sym (cut-step line x end fits at s t h e) ∙ now .same
+
+  pub search-ends : (at : ℕ) (s : Search) → Searching line x from end at s → end ≤ at → none ≡ cutFrom line x from end fresh
+  search-ends at s now h =
+      let last : at ≡ end = omega arith in
+      sym (ap (λ (k : ℕ). cutFrom line x k end s) last ∙ cut-end line x end fits s) ∙ now .same
+
   pub search-goes-on : (at : ℕ) (s t : Search) → Searching line x from end at s → at < end
       → Turn.On t ≡ turnOf x (byteAt line at) s → Searching line x from end (at + 1) t
   unfolding takenIn
   search-goes-on at s t now h on = record {
     begun = omega arith;
     within = omega arith;
-    same = sym (cut-step line x end fits at s (Turn.On t) h on) ∙ now .same;
+    same = search-turns at s (Turn.On t) now h on;
     parens = omega (arith, ap (λ (u : Search). u .parens) taken, grown (eqb b 40) (eqb b 41) (s .parens));
     braces = omega (arith, ap (λ (u : Search). u .braces) taken, grown (eqb b 123) (eqb b 125) (s .braces));
     sees = λ l. or-left (t .seen) (isSolid (byteAt line (at + 1))) (ap (λ (u : Search). u .seen) taken ∙ now .sees h);

@@ -1,5 +1,5 @@
--- The table that is laid for a search. A byte and its partner share a letter with at most one other byte, the capital that
--- stands 32 below the partner: so two entries at most are marked, and these are all that the same letter has.
+-- The table that is laid for a search. The bytes of one letter are its partner and at most one more, the capital 32 below: so at
+-- most two entries are marked, and no other byte has the letter.
 use mathlib.Core.Path.{_≡_, refl, sym, ap, _∙_}
 use mathlib.Core.Logic.{_⊎_, inl, inr}
 use mathlib.Core.Bool.{Bool, true, false}
@@ -9,20 +9,17 @@ use native.Mathlib.Omega.{arith}
 use native.Mathlib.Decide.{ℕ-discrete}
 use lib.Dec.{eqb}
 use lib.ListN.{getD, set}
-use borrow.Author.Tests.{eqb-true, eqb-false, eq-eqb, ne-eqb}
+use borrow.Author.Tests.{eq-eqb, ne-eqb}
 use Rattle.plain.specs.Choice.{select}
 use Rattle.plain.specs.Lists.{listed}
 use Rattle.plain.proofs.Tests.{tested, not-both}
-use Rattle.plain.proofs.Lists.{listed-at, listed-same, listed-set}
+use Rattle.plain.proofs.Lists.{listed-read, listed-same, listed-set}
 use Rattle.token.specs.Token.{lowered, sameLetter, classOf}
 use Rattle.token.proofs.Bytes.{class-rule, class-small, class-partner, lowered-below, lowered-again, same-or-capital}
 
 -- an entry of the table in which a letter is marked
 abbrev pub markedClass : ℕ → ℕ → ℕ
 markedClass x b = select (sameLetter b x) (classOf b + 2048) (classOf b)
-
-pub marked-read : (x : ℕ) (t : List ℕ) → t ≡ listed 256 (markedClass x) → (b : ℕ) → b < 256 → getD t b 0 ≡ markedClass x b
-marked-read x t e b h = ap (λ (u : List ℕ). getD u b 0) e ∙ listed-at 256 (markedClass x) b h
 
 -- an entry with one byte marked
 abbrev once : ℕ → ℕ → ℕ
@@ -41,7 +38,7 @@ module _ (t : List ℕ) (laid : t ≡ listed 256 classOf) (x p : ℕ) (small : x
   below = omega (arith, partner, lowered-below x small)
 
   -- the partner is marked first
-  pub marked-once : (v : ℕ) → v ≡ getD t p 0 + 2048 → set t p v ≡ listed 256 (once p)
+  marked-once : (v : ℕ) → v ≡ getD t p 0 + 2048 → set t p v ≡ listed 256 (once p)
   marked-once v e =
       ap (λ (u : List ℕ). set u p v) laid
       ∙ listed-set 256 classOf (once p) p v below
@@ -71,7 +68,7 @@ module _ (t : List ℕ) (laid : t ≡ listed 256 classOf) (x p : ℕ) (small : x
   module _ (u : List ℕ) (v q : ℕ) (first : v ≡ getD t p 0 + 2048) (once-marked : u ≡ set t p v) (apart : q + 32 ≡ p) where
     at-capital : getD u q 0 ≡ classOf q
     at-capital =
-        ap (λ (w : List ℕ). getD w q 0) (once-marked ∙ marked-once v first) ∙ listed-at 256 (once p) q (omega (arith, below, apart))
+        listed-read 256 (once p) u (once-marked ∙ marked-once v first) q (omega (arith, below, apart))
         ∙ ap (λ (c : Bool). select c (classOf q + 2048) (classOf q)) (ne-eqb q p (λ e. omega arith))
 
     -- another byte of the letter would be the capital

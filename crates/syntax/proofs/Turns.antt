@@ -1,5 +1,5 @@
 -- One byte of the search for the cut, case by case as the code tells them apart.
-use mathlib.Core.Path.{_≡_, refl, sym, ap, _∙_}
+use mathlib.Core.Path.{_≡_, sym, ap, _∙_}
 use mathlib.Core.Logic.{_⊎_, inl, inr}
 use mathlib.Core.Bool.{Bool, true, false, _&&_, _||_, and-false}
 use Prim.Native.Nat.{ℕ, _+_, _-_, _/_, _≤_, _<_}
@@ -28,25 +28,26 @@ pub turn-on : (x b : ℕ) (s : Search) → isWanted x b s ≡ false → isStray 
 unfolding turnOf
 turn-on x b s w t = rw (w, t)
 
--- Outside brackets and after some byte: here the wanted character is the cut. The first test that fails decides.
+-- Outside brackets and after some byte other than whitespace the wanted character is the cut. The first test that fails decides.
 module _ (s : Search) where
-  abbrev pub free : Bool
-  free = s .seen && eqb (s .parens) 0 && eqb (s .braces) 0
+  abbrev mayCut : Bool
+  mayCut = s .seen && eqb (s .parens) 0 && eqb (s .braces) 0
 
-  pub free-unseen : s .seen ≡ false → false ≡ free
-  free-unseen e = rw e
+  pub may-cut-unseen : s .seen ≡ false → false ≡ mayCut
+  may-cut-unseen e = rw e
 
-  pub free-in-parens : (s .parens ≡ 0 → ⊥) → false ≡ free
-  free-in-parens n = rw (ne-eqb (s .parens) 0 n, and-false)
+  pub may-cut-in-parens : (s .parens ≡ 0 → ⊥) → false ≡ mayCut
+  may-cut-in-parens n = rw (ne-eqb (s .parens) 0 n, and-false)
 
-  pub free-outside : s .seen ≡ true → s .parens ≡ 0 → eqb (s .braces) 0 ≡ free
-  free-outside e z = rw (e, eq-eqb (s .parens) 0 z)
+  pub may-cut-outside : s .seen ≡ true → s .parens ≡ 0 → eqb (s .braces) 0 ≡ mayCut
+  may-cut-outside e z = rw (e, eq-eqb (s .parens) 0 z)
 
--- A byte that is not the cut, by its kind, which the code reads off its class. It is solid, or something has been seen.
+-- what a byte does that is not the cut
+abbrev nested : ℕ → Search → Turn
+nested b s = select (isStray b s) Turn.Stray (Turn.On (takenIn b s))
+
+-- Such a byte by its kind, which the code reads off its class. It is solid, or something has been seen.
 module _ (class b : ℕ) (s : Search) (below : b < 256) (is : class ≡ classOf b) (seen : (s .seen || isSolid b) ≡ true) where
-  abbrev nested : Turn
-  nested = select (isStray b s) Turn.Stray (Turn.On (takenIn b s))
-
   -- the search goes on with these nestings
   abbrev on : ℕ → ℕ → Turn
   on p q = Turn.On (record { seen = true; parens = p; braces = q })
@@ -60,7 +61,7 @@ module _ (class b : ℕ) (s : Search) (below : b < 256) (is : class ≡ classOf 
   no-bracket : class / 256 < 2 → (o : ℕ) → 2 ≤ classKind o → b ≡ o → ⊥
   no-bracket h o l e = omega (arith, kind, ap classKind e)
 
-  pub nest-none : class / 256 < 2 → on (s .parens) (s .braces) ≡ nested
+  pub nest-none : class / 256 < 2 → on (s .parens) (s .braces) ≡ nested b s
   unfolding isStray takenIn classKind isWhitespace
   nest-none h =
       rw (
@@ -71,27 +72,27 @@ module _ (class b : ℕ) (s : Search) (below : b < 256) (is : class ≡ classOf 
         ne-eqb b 125 (no-bracket h 125 (omega arith)),
       )
 
-  pub nest-open-paren : class / 256 ≡ 2 → on (s .parens + 1) (s .braces) ≡ nested
+  pub nest-open-paren : class / 256 ≡ 2 → on (s .parens + 1) (s .braces) ≡ nested b s
   unfolding isStray takenIn
   nest-open-paren e = rw (seen, bracket 2 e (omega arith))
 
-  pub nest-stray-paren : class / 256 ≡ 3 → s .parens ≡ 0 → Turn.Stray ≡ nested
+  pub nest-stray-paren : class / 256 ≡ 3 → s .parens ≡ 0 → Turn.Stray ≡ nested b s
   unfolding isStray
   nest-stray-paren e z = rw (bracket 3 e (omega arith), eq-eqb (s .parens) 0 z)
 
-  pub nest-close-paren : class / 256 ≡ 3 → (s .parens ≡ 0 → ⊥) → on (s .parens - 1) (s .braces) ≡ nested
+  pub nest-close-paren : class / 256 ≡ 3 → (s .parens ≡ 0 → ⊥) → on (s .parens - 1) (s .braces) ≡ nested b s
   unfolding isStray takenIn
   nest-close-paren e n = rw (seen, bracket 3 e (omega arith), ne-eqb (s .parens) 0 n)
 
-  pub nest-open-brace : class / 256 ≡ 4 → on (s .parens) (s .braces + 1) ≡ nested
+  pub nest-open-brace : class / 256 ≡ 4 → on (s .parens) (s .braces + 1) ≡ nested b s
   unfolding isStray takenIn
   nest-open-brace e = rw (seen, bracket 4 e (omega arith))
 
-  pub nest-stray-brace : class / 256 ≡ 5 → s .braces ≡ 0 → Turn.Stray ≡ nested
+  pub nest-stray-brace : class / 256 ≡ 5 → s .braces ≡ 0 → Turn.Stray ≡ nested b s
   unfolding isStray
   nest-stray-brace e z = rw (bracket 5 e (omega arith), eq-eqb (s .braces) 0 z)
 
-  pub nest-close-brace : class / 256 ≡ 5 → (s .braces ≡ 0 → ⊥) → on (s .parens) (s .braces - 1) ≡ nested
+  pub nest-close-brace : class / 256 ≡ 5 → (s .braces ≡ 0 → ⊥) → on (s .parens) (s .braces - 1) ≡ nested b s
   unfolding isStray takenIn
   nest-close-brace e n = rw (seen, bracket 5 e (omega arith), ne-eqb (s .braces) 0 n)
 
@@ -125,18 +126,18 @@ module _ (class x b : ℕ) (s : Search) (below : b < 256) (is : class ≡ marked
       go (inl e) = e
       go (inr e) = absurd (omega (arith, e .1, class-small b below))
 
-  pub turn-cut : 2048 ≤ class → free s ≡ true → Turn.Cut ≡ turnOf x b s
+  pub turn-cut : 2048 ≤ class → mayCut s ≡ true → Turn.Cut ≡ turnOf x b s
   unfolding isWanted
-  turn-cut h e = sym (turn-wanted x b s (and-both (free s) (sameLetter b x) e (marked h .0)))
+  turn-cut h e = sym (turn-wanted x b s (and-both (mayCut s) (sameLetter b x) e (marked h .0)))
 
-  nests : isWanted x b s ≡ false → select (isStray b s) Turn.Stray (Turn.On (takenIn b s)) ≡ turnOf x b s
+  nests : isWanted x b s ≡ false → nested b s ≡ turnOf x b s
   unfolding turnOf
   nests e = rw e
 
-  pub turn-unmarked : (r : Turn) → class < 2048 → (class ≡ classOf b → r ≡ select (isStray b s) Turn.Stray (Turn.On (takenIn b s))) → r ≡ turnOf x b s
+  pub turn-unmarked : (r : Turn) → class < 2048 → (class ≡ classOf b → r ≡ nested b s) → r ≡ turnOf x b s
   unfolding isWanted
-  turn-unmarked r h e = e (unmarked h .1) ∙ nests (and-false-right (free s) (sameLetter b x) (unmarked h .0))
+  turn-unmarked r h e = e (unmarked h .1) ∙ nests (and-false-right (mayCut s) (sameLetter b x) (unmarked h .0))
 
-  pub turn-nested : (r : Turn) → 2048 ≤ class → free s ≡ false → (class - 2048 ≡ classOf b → r ≡ select (isStray b s) Turn.Stray (Turn.On (takenIn b s))) → r ≡ turnOf x b s
+  pub turn-nested : (r : Turn) → 2048 ≤ class → mayCut s ≡ false → (class - 2048 ≡ classOf b → r ≡ nested b s) → r ≡ turnOf x b s
   unfolding isWanted
-  turn-nested r h f e = e (omega (arith, marked h .1)) ∙ nests (and-false-left (free s) (sameLetter b x) f)
+  turn-nested r h f e = e (omega (arith, marked h .1)) ∙ nests (and-false-left (mayCut s) (sameLetter b x) f)

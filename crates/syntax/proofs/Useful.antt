@@ -75,21 +75,21 @@ module _ (line : List ℕ) (l : ℕ) (fits : l ≤ length line) where
 
 -- ---- a loop over whitespace: where it stands, the useful place from here on is the one from its start
 
-module _ (line : List ℕ) (from end : ℕ) (fits : end ≤ length line) where
-  abbrev pub Skipped : ℕ → Type 0
-  Skipped at = (at ≤ end) × (usefulFrom line at end ≡ usefulFrom line from end)
+abbrev pub Skipped : List ℕ → ℕ → ℕ → ℕ → Type 0
+Skipped line from end at = (at ≤ end) × (usefulFrom line at end ≡ usefulFrom line from end)
 
+module _ (line : List ℕ) (from end : ℕ) (fits : end ≤ length line) where
   -- what the loop hands back
-  abbrev pub Skips : ℕ → Type 0
+  abbrev Skips : ℕ → Type 0
   Skips at = (at ≡ usefulFrom line from end) × (at ≤ end)
 
-  pub skip-stops : (at : ℕ) → Skipped at → at < end → isWhitespace (byteAt line at) ≡ false → Skips at
+  pub skip-stops : (at : ℕ) → Skipped line from end at → at < end → isWhitespace (byteAt line at) ≡ false → Skips at
   skip-stops at h l f = (sym (useful-here line end fits at l f) ∙ h .1, h .0)
 
-  pub skip-goes-on : (at : ℕ) → Skipped at → at < end → isWhitespace (byteAt line at) ≡ true → Skipped (at + 1)
+  pub skip-goes-on : (at : ℕ) → Skipped line from end at → at < end → isWhitespace (byteAt line at) ≡ true → Skipped line from end (at + 1)
   skip-goes-on at h l w = (omega arith, useful-later line end fits at l w ∙ h .1)
 
-  pub skip-ends : (at : ℕ) → Skipped at → end ≤ at → Skips at
+  pub skip-ends : (at : ℕ) → Skipped line from end at → end ≤ at → Skips at
   skip-ends at h l =
       let last : at ≡ end = omega arith in
       (last ∙ sym (useful-end line end fits) ∙ ap (λ (n : ℕ). usefulFrom line n end) (sym last) ∙ h .1, h .0)

@@ -173,6 +173,7 @@ pub fn least(a: usize, b: usize) -> usize
     if a <= b { a } else { b }
 }
 
+// The first place from here to the end that holds no whitespace, or the end.
 fn skip_whitespace(line: &[u8], from: usize, end: usize) -> usize
     requires { ⌜ from ≤ end ⌝ }
     requires { ⌜ end ≤ length (now line) ⌝ }
@@ -189,7 +190,7 @@ fn skip_whitespace(line: &[u8], from: usize, end: usize) -> usize
     at
 }
 
-// The same for a search, which has the byte table laid.
+// The same by the table that a search has laid: `token::is_whitespace` would lay it anew for each byte of whitespace.
 fn skip_by_class(line: &[u8], classes: &[u16; 256], from: usize, end: usize) -> usize
     requires { ⌜ from ≤ end ⌝ }
     requires { ⌜ end ≤ length (now line) ⌝ }
@@ -197,30 +198,30 @@ fn skip_by_class(line: &[u8], classes: &[u16; 256], from: usize, end: usize) -> 
     ensures { λ r. ⌜ r ≡ usefulFrom (now (line .entry)) from end ⌝ }
     ensures { λ r. ⌜ r ≤ end ⌝ }
 {
-    let mut here = from;
-    while here < end {
-        let b = line[here] as usize;
+    let mut place = from;
+    while place < end {
+        let b = line[place] as usize;
         if classes[b] / token::PARTNERS != token::WHITESPACE {
-            return here;
+            return place;
         }
-        here += 1;
+        place += 1;
     }
-    here
+    place
 }
 
 // Marks the lookahead character in the table, in both cases: its partner, and the capital of that if there is one.
 fn mark(classes: &mut [u16; 256], wanted: u8)
     requires { ⌜ now classes ≡ listed 256 classOf ⌝ }
-    ensures { λ r. ⌜ now (classes .exit) ≡ listed 256 (λ (b : ℕ). select (sameLetter b wanted) (classOf b + 2048) (classOf b)) ⌝ }
+    ensures { λ _. ⌜ now (classes .exit) ≡ listed 256 (λ (b : ℕ). select (sameLetter b wanted) (classOf b + 2048) (classOf b)) ⌝ }
 {
     let at = wanted as usize;
     let partner = classes[at] % token::PARTNERS;
     let low = partner as usize;
     classes[low] = classes[low] + MARK;
-    if partner < token::STEP {
+    if partner < token::CAPITAL_STEP {
         return;
     }
-    let capital = (partner - token::STEP) as usize;
+    let capital = (partner - token::CAPITAL_STEP) as usize;
     if classes[capital] != partner {
         return;
     }
@@ -228,7 +229,7 @@ fn mark(classes: &mut [u16; 256], wanted: u8)
 }
 
 // Whether the lookahead character would be the cut here: after some byte other than whitespace, and outside brackets.
-fn is_free(s: Search) -> bool
+fn may_cut(s: Search) -> bool
     ensures { λ r. ⌜ r ≡ (s .seen && eqb (s .parens) 0 && eqb (s .braces) 0) ⌝ }
 {
     if !s.seen {
@@ -294,14 +295,14 @@ fn take_in(s: Search, class: u16) -> Turn
     if class < MARK {
         return nest(s, class);
     }
-    if is_free(s) {
+    if may_cut(s) {
         return Turn::Cut;
     }
     nest(s, class - MARK)
 }
 
-// The table is laid once for the search, and each byte looked up in it once. Whitespace before the first other byte changes
-// nothing, so it is skipped; from there on something has been seen after every byte.
+// The table is laid once for the search, not for each byte. Whitespace before the first other byte changes nothing, so it is
+// skipped; each byte after that leaves something seen.
 fn find_cut(line: &[u8], from: usize, end: usize, wanted: u8) -> Lookahead
     requires { ⌜ from ≤ end ⌝ }
     requires { ⌜ end ≤ length (now line) ⌝ }

@@ -10,13 +10,13 @@ use lib.ListN.{getD}
 use borrow.Author.Tests.{leb-true, lt-leb, eqb-true, eqb-false, eq-eqb, ne-eqb}
 use Rattle.plain.specs.Choice.{select}
 use Rattle.plain.specs.Lists.{listed}
-use Rattle.plain.proofs.Lists.{listed-at}
+use Rattle.plain.proofs.Lists.{listed-read}
 use Rattle.plain.proofs.Tests.{and-left, and-right, and-false-right, tested}
 use Rattle.token.specs.Token.{isWhitespace, lowered, sameLetter, classKind, classOf}
 
 -- each byte finds its own class in the table that is laid
 pub class-rule : (t : List ℕ) → t ≡ listed 256 classOf → (b : ℕ) → b < 256 → getD t b 0 ≡ classOf b
-class-rule t e b h = ap (λ (u : List ℕ). getD u b 0) e ∙ listed-at 256 classOf b h
+class-rule = listed-read 256 classOf
 
 pub lowered-below : (b : ℕ) → b < 256 → lowered b < 256
 unfolding lowered
@@ -74,7 +74,7 @@ kind-bracket b = go (isWhitespace b) (eqb b 40) (eqb b 41) (eqb b 123) (eqb b 12
     go false false false false true e f g i h = eqb-true b 125 i
     go false false false false false e f g i h = absurd (omega arith)
 
--- there are six kinds, so a class has room for a mark above it
+-- there are six kinds, so every class is below 1,536
 pub kind-small : (b : ℕ) → classKind b < 6
 unfolding classKind
 kind-small b = go (isWhitespace b) (eqb b 40) (eqb b 41) (eqb b 123) (eqb b 125)

@@ -5,7 +5,7 @@ ghost use mathlib.Core.Path.{_≡_};
 ghost use Rattle.plain.specs.Lists.{listed};
 ghost use Rattle.token.specs.Token.{classOf, isWhitespace, lowered, sameLetter};
 
-// The lower-case partner of each byte, and 256 times its kind: a number below, or 0.
+// The lower-case partner of each byte, and 256 times its kind, which is one of those named below the table, or 0.
 const CLASSES: [u16; 256] = [
     0,
     1,
@@ -265,9 +265,10 @@ const CLASSES: [u16; 256] = [
     255,
 ];
 
-// A class is its partner plus this many times its kind.
+// How many partners there are: a class is its partner plus this many times its kind.
 pub const PARTNERS: u16 = 256;
 
+// The kinds. Brackets come last, so that one comparison tells whether a byte is one.
 pub const WHITESPACE: u16 = 1;
 
 pub const OPEN_PAREN: u16 = 2;
@@ -287,7 +288,7 @@ const FIRST_CAPITAL: u8 = 65;
 const LAST_CAPITAL: u8 = 90;
 
 // How far a capital's partner stands above it.
-pub const STEP: u16 = 32;
+pub const CAPITAL_STEP: u16 = 32;
 
 // The table, laid for whoever reads it for many bytes.
 pub fn classes() -> [u16; 256]
@@ -334,10 +335,10 @@ pub fn eq_ignore_ascii_case(a: u8, b: u8) -> bool
     if a == b {
         return true;
     }
-    if a as u16 + STEP == b as u16 {
+    if a as u16 + CAPITAL_STEP == b as u16 {
         return to_ascii_lowercase(a) == b;
     }
-    if b as u16 + STEP == a as u16 {
+    if b as u16 + CAPITAL_STEP == a as u16 {
         return to_ascii_lowercase(b) == a;
     }
     false

@@ -3,9 +3,6 @@ use Rattle.token.proofs.Bytes.{class-whitespace, white-above}
 use borrow.Author.Needs.{needs}
 use Rattle.token.proofs.is_whitespace.Statement.{statement}
 use Rattle.token.proofs.is_whitespace.Tie as tie
-use Rattle.token.proofs.is_whitespace.Reads as reads
-use Rattle.token.proofs.is_whitespace.Lts as lts
-use Rattle.token.proofs.class.Reads as class-reads
 
 returns : tie.Need-returns
 returns c = white-above _ _ (c .if1 .taken) (omega arith)

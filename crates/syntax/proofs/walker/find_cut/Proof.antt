@@ -1,14 +1,13 @@
 -- The loop begins at the first byte other than whitespace; at each turn the cut from here on, with what has passed, is the cut
 -- from the start (`Searching`). The table was marked for the wanted byte, so a turn by class is the definition's turn.
 use borrow.Author.Needs.{needs}
-use mathlib.Core.Path.{_≡_, sym, ap, _∙_}
-use Prim.Native.Nat.{ℕ, _-_}
+use mathlib.Core.Path.{sym, _∙_}
+use Prim.Native.Nat.{_-_}
 use native.Mathlib.Omega.{arith}
-use denote.Ref.{now}
-use Rattle.syntax.specs.Cut.{cutFrom}
+use Rattle.plain.proofs.Lists.{listed-read}
 use Rattle.syntax.specs.declared.walker.Turn.the-variants as Turn
-use Rattle.syntax.proofs.Marks.{marked-read}
-use Rattle.syntax.proofs.Cuts.{Searching, search-begins, search-goes-on, cut-end, cut-step}
+use Rattle.syntax.proofs.Marks.{markedClass}
+use Rattle.syntax.proofs.Cuts.{Searching, search-begins, search-turns, search-ends, search-goes-on}
 use Rattle.syntax.proofs.walker.find_cut.Statement.{statement}
 use Rattle.syntax.proofs.walker.find_cut.Tie as tie
 
@@ -49,13 +48,13 @@ enum-told : tie.Need-enum-told Inv-loop μ-loop
 enum-told c = search needs
 
 returns : tie.Need-returns Inv-loop μ-loop
-returns c = sym (cut-step _ _ _ (c .before .before .before .before .before .before .before .before .before .before .before .before .pre .1) _ _ Turn.Cut (c .before .before .before .before .loop-test .taken) (sym (c .enum-told .given .1) ∙ c .before .before .take-in .ensures (c .before .before .before .before .before .before .before .before .before .before .before .before .args .wanted) _ (c .before .before .before .shared-slice-known2 .given _ .fits) (marked-read _ _ (c .before .before .before .before .before .before .mark .ensures) _ (c .before .before .before .shared-slice-known2 .given _ .fits)) (c .before .before .before .before .before .loop .inv .sees (c .before .before .before .before .loop-test .taken)))) ∙ c .before .before .before .before .before .loop .inv .same
+returns c = search-turns _ _ _ _ (c .before .before .before .before .before .before .before .before .before .before .before .before .pre .1) _ _ Turn.Cut (c .before .before .before .before .before .loop .inv) (c .before .before .before .before .loop-test .taken) (sym (c .enum-told .given .1) ∙ c .before .before .take-in .ensures (c .before .before .before .before .before .before .before .before .before .before .before .before .args .wanted) _ (c .before .before .before .shared-slice-known2 .given _ .fits) (listed-read 256 (markedClass (c .before .before .before .before .before .before .before .before .before .before .before .before .args .wanted)) _ (c .before .before .before .before .before .before .mark .ensures) _ (c .before .before .before .shared-slice-known2 .given _ .fits)) (c .before .before .before .before .before .loop .inv .sees (c .before .before .before .before .loop-test .taken)))
 
 enum-told-2 : tie.Need-enum-told-2 Inv-loop μ-loop
 enum-told-2 c = search needs
 
 returns-2 : tie.Need-returns-2 Inv-loop μ-loop
-returns-2 c = sym (cut-step _ _ _ (c .before .before .before .before .before .before .before .before .before .before .before .before .pre .1) _ _ Turn.Stray (c .before .before .before .before .loop-test .taken) (sym (c .enum-told2 .given .1) ∙ c .before .before .take-in .ensures (c .before .before .before .before .before .before .before .before .before .before .before .before .args .wanted) _ (c .before .before .before .shared-slice-known2 .given _ .fits) (marked-read _ _ (c .before .before .before .before .before .before .mark .ensures) _ (c .before .before .before .shared-slice-known2 .given _ .fits)) (c .before .before .before .before .before .loop .inv .sees (c .before .before .before .before .loop-test .taken)))) ∙ c .before .before .before .before .before .loop .inv .same
+returns-2 c = search-turns _ _ _ _ (c .before .before .before .before .before .before .before .before .before .before .before .before .pre .1) _ _ Turn.Stray (c .before .before .before .before .before .loop .inv) (c .before .before .before .before .loop-test .taken) (sym (c .enum-told2 .given .1) ∙ c .before .before .take-in .ensures (c .before .before .before .before .before .before .before .before .before .before .before .before .args .wanted) _ (c .before .before .before .shared-slice-known2 .given _ .fits) (listed-read 256 (markedClass (c .before .before .before .before .before .before .before .before .before .before .before .before .args .wanted)) _ (c .before .before .before .before .before .before .mark .ensures) _ (c .before .before .before .shared-slice-known2 .given _ .fits)) (c .before .before .before .before .before .loop .inv .sees (c .before .before .before .before .loop-test .taken)))
 
 enum-known-next : tie.Need-enum-known-next Inv-loop μ-loop
 enum-known-next c = search needs
@@ -67,10 +66,10 @@ loop-less : tie.Need-loop-less Inv-loop μ-loop
 loop-less c = search needs
 
 loop-again : tie.Need-loop-again Inv-loop μ-loop
-loop-again c = search-goes-on _ _ _ _ (c .before .before .before .before .before .before .before .before .before .before .before .before .before .pre .1) _ _ _ (c .before .before .before .before .before .before .loop .inv) (c .before .before .before .before .before .loop-test .taken) (sym (c .before .next .given .1) ∙ c .before .before .before .take-in .ensures (c .before .before .before .before .before .before .before .before .before .before .before .before .before .args .wanted) _ (c .before .before .before .before .shared-slice-known2 .given _ .fits) (marked-read _ _ (c .before .before .before .before .before .before .before .mark .ensures) _ (c .before .before .before .before .shared-slice-known2 .given _ .fits)) (c .before .before .before .before .before .before .loop .inv .sees (c .before .before .before .before .before .loop-test .taken)))
+loop-again c = search-goes-on _ _ _ _ (c .before .before .before .before .before .before .before .before .before .before .before .before .before .pre .1) _ _ _ (c .before .before .before .before .before .before .loop .inv) (c .before .before .before .before .before .loop-test .taken) (sym (c .before .next .given .1) ∙ c .before .before .before .take-in .ensures (c .before .before .before .before .before .before .before .before .before .before .before .before .before .args .wanted) _ (c .before .before .before .before .shared-slice-known2 .given _ .fits) (listed-read 256 (markedClass (c .before .before .before .before .before .before .before .before .before .before .before .before .before .args .wanted)) _ (c .before .before .before .before .before .before .before .mark .ensures) _ (c .before .before .before .before .shared-slice-known2 .given _ .fits)) (c .before .before .before .before .before .before .loop .inv .sees (c .before .before .before .before .before .loop-test .taken)))
 
 returns-3 : tie.Need-returns-3 Inv-loop μ-loop
-returns-3 c = let here : c .before .before .before .before .before .before .before .before .args .end ≡ c .before .loop .at = omega (arith, c .before .loop .inv .within) in sym (cut-end _ _ _ (c .before .before .before .before .before .before .before .before .pre .1) _) ∙ ap (λ (n : ℕ). cutFrom (now (c .before .before .before .before .before .before .before .before .args .line)) (c .before .before .before .before .before .before .before .before .args .wanted) n (c .before .before .before .before .before .before .before .before .args .end) (c .before .loop .s)) here ∙ c .before .loop .inv .same
+returns-3 c = search-ends _ _ _ _ (c .before .before .before .before .before .before .before .before .pre .1) _ _ (c .before .loop .inv) (c .loop-test .left)
 
 pub find-cut-spec : {M : Type 1} → statement M
 find-cut-spec =

@@ -56,7 +56,7 @@ element-write-classes-2 : tie.Need-element-write-classes-2
 element-write-classes-2 c = search needs
 
 returns-3 : tie.Need-returns-3
-returns-3 c = marked-both _ (c .before .before .before .before .before .pre) _ _ (search needs) (partner-read _ (c .before .before .before .before .before .pre) _ (search needs)) _ _ _ refl refl (omega (arith, c .before .before .if1 .left)) _ (omega (arith, c .if2 .left)) refl
+returns-3 c = marked-both _ (c .before .before .before .before .before .pre) _ _ (search needs) (partner-read _ (c .before .before .before .before .before .pre) _ (search needs)) _ _ _ refl refl (sub-add-cancel (c .before .before .if1 .left)) _ (omega (arith, c .if2 .left)) refl
 
 pub mark-spec : {M : Type 1} → statement M
 mark-spec =

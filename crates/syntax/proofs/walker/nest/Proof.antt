@@ -1,4 +1,5 @@
--- The kind decides: each return is the case of one kind, and the last of the greatest.
+-- The kind decides: the first return is of the kinds that are no bracket, each other of one bracket, the last two of the greatest
+-- kind.
 use mathlib.Core.Path.{_∙_}
 use native.Mathlib.Omega.{arith}
 use Rattle.syntax.proofs.Turns.{nest-none, nest-open-paren, nest-stray-paren, nest-close-paren, nest-open-brace, nest-stray-brace, nest-close-brace, kinds-end}

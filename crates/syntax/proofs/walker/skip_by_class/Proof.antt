@@ -1,20 +1,19 @@
 -- The loop of `skip_whitespace`, with the same invariant; whether a byte is whitespace is read off its class.
 use borrow.Author.Needs.{needs}
-use mathlib.Core.Path.{_≡_, refl, sym, _∙_}
-use Prim.Native.Nat.{_≤_, _-_}
+use mathlib.Core.Path.{refl, sym, _∙_}
+use Prim.Native.Nat.{_-_}
 use native.Mathlib.Omega.{arith}
 use borrow.Author.Tests.{eq-eqb, ne-eqb}
 use Rattle.token.proofs.Bytes.{laid-whitespace}
-use Rattle.syntax.specs.Walker.{usefulFrom}
-use Rattle.syntax.proofs.Useful.{skip-stops, skip-goes-on, skip-ends}
+use Rattle.syntax.proofs.Useful.{Skipped, skip-stops, skip-goes-on, skip-ends}
 use Rattle.syntax.proofs.walker.skip_by_class.Statement.{statement}
 use Rattle.syntax.proofs.walker.skip_by_class.Tie as tie
 
 abbrev Inv-loop : tie.InvT-loop
-Inv-loop line classes from end here₀ here = (here ≤ end) × (usefulFrom line here end ≡ usefulFrom line from end)
+Inv-loop line classes from end place₀ place = Skipped line from end place
 
 abbrev μ-loop : tie.MeasureT-loop
-μ-loop line classes from end here₀ here = end - here
+μ-loop line classes from end place₀ place = end - place
 
 loop-holds : tie.Need-loop-holds Inv-loop μ-loop
 loop-holds c = (omega arith, refl)
@@ -23,19 +22,19 @@ shared-slice-read-b : tie.Need-shared-slice-read-b Inv-loop μ-loop
 shared-slice-read-b c = search needs
 
 cast-b : tie.Need-cast-b Inv-loop μ-loop
-cast-b c = omega (arith, c .shared-slice-known .given (c .before .before .loop .here))
+cast-b c = omega (arith, c .shared-slice-known .given (c .before .before .loop .place))
 
 mul-if1 : tie.Need-mul-if1 Inv-loop μ-loop
-mul-if1 c = omega (arith, c .shared-slice-known .given (c .before .before .loop .here))
+mul-if1 c = omega (arith, c .shared-slice-known .given (c .before .before .loop .place))
 
 element-copy-out-if1 : tie.Need-element-copy-out-if1 Inv-loop μ-loop
-element-copy-out-if1 c = omega (arith, c .shared-slice-known .given (c .before .before .loop .here))
+element-copy-out-if1 c = omega (arith, c .shared-slice-known .given (c .before .before .loop .place))
 
 returns : tie.Need-returns Inv-loop μ-loop
 returns c = skip-stops _ _ _ (c .before .before .before .before .before .pre .1 .0) _ (c .before .before .before .before .loop .inv) (c .before .before .before .loop-test .taken) (sym (laid-whitespace _ (c .before .before .before .before .before .pre .1 .1) _ (c .before .before .shared-slice-known .given _ .fits)) ∙ ne-eqb _ 1 (c .if1 .taken))
 
-add-here : tie.Need-add-here Inv-loop μ-loop
-add-here c = search needs
+add-place : tie.Need-add-place Inv-loop μ-loop
+add-place c = search needs
 
 loop-less : tie.Need-loop-less Inv-loop μ-loop
 loop-less c = search needs
@@ -58,7 +57,7 @@ skip-by-class-spec =
     mul-if1
     element-copy-out-if1
     returns
-    add-here
+    add-place
     loop-less
     loop-again
     returns-2)

@@ -1,16 +1,15 @@
 -- The loop's invariant: the useful place from here on is the useful place from the start.
 use borrow.Author.Needs.{needs}
-use mathlib.Core.Path.{_≡_, refl, sym, _∙_}
-use Prim.Native.Nat.{_≤_, _-_}
+use mathlib.Core.Path.{refl, sym, _∙_}
+use Prim.Native.Nat.{_-_}
 use native.Mathlib.Omega.{arith}
 use borrow.Author.Tests.{not-true, not-false}
-use Rattle.syntax.specs.Walker.{usefulFrom}
-use Rattle.syntax.proofs.Useful.{skip-stops, skip-goes-on, skip-ends}
+use Rattle.syntax.proofs.Useful.{Skipped, skip-stops, skip-goes-on, skip-ends}
 use Rattle.syntax.proofs.walker.skip_whitespace.Statement.{statement}
 use Rattle.syntax.proofs.walker.skip_whitespace.Tie as tie
 
 abbrev Inv-loop : tie.InvT-loop
-Inv-loop line from end at₀ at = (at ≤ end) × (usefulFrom line at end ≡ usefulFrom line from end)
+Inv-loop line from end at₀ at = Skipped line from end at
 
 abbrev μ-loop : tie.MeasureT-loop
 μ-loop line from end at₀ at = end - at

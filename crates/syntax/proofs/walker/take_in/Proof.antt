@@ -18,17 +18,17 @@ nest-requires c κs = search needs
 returns-2 : tie.Need-returns-2
 returns-2 c = λ x b h e s. turn-unmarked _ x b (c .before .before .before .args .s) h e _ (c .before .if2 .taken) (λ k. c .nest .ensures b h k s)
 
-is-free-requires : tie.Need-is-free-requires
-is-free-requires c κs = search needs
+may-cut-requires : tie.Need-may-cut-requires
+may-cut-requires c κs = search needs
 
 returns-3 : tie.Need-returns-3
-returns-3 c = λ x b h e s. turn-cut _ x b (c .before .before .before .before .args .s) h e (c .before .before .if2 .left) (sym (c .before .is-free .ensures) ∙ c .if3 .taken)
+returns-3 c = λ x b h e s. turn-cut _ x b (c .before .before .before .before .args .s) h e (c .before .before .if2 .left) (sym (c .before .may-cut .ensures) ∙ c .if3 .taken)
 
 nest-requires-2 : tie.Need-nest-requires-2
 nest-requires-2 c κs = search needs
 
 returns-4 : tie.Need-returns-4
-returns-4 c = λ x b h e s. turn-nested _ x b (c .before .before .before .before .before .args .s) h e _ (c .before .before .before .if2 .left) (sym (c .before .before .is-free .ensures) ∙ c .before .if3 .left) (λ k. c .nest2 .ensures b h k s)
+returns-4 c = λ x b h e s. turn-nested _ x b (c .before .before .before .before .before .args .s) h e _ (c .before .before .before .if2 .left) (sym (c .before .before .may-cut .ensures) ∙ c .before .if3 .left) (λ k. c .nest2 .ensures b h k s)
 
 pub take-in-spec : {M : Type 1} → statement M
 take-in-spec =
@@ -38,7 +38,7 @@ take-in-spec =
     returns
     nest-requires
     returns-2
-    is-free-requires
+    may-cut-requires
     returns-3
     nest-requires-2
     returns-4)
