@@ -87,7 +87,7 @@ typedef struct {
  *         part counts P together at most; P part words: 33 to 126 except 59 (that byte, case ignored), 256 (whitespace),
  *         257 (expression), 512 + r (a rule of ruleset r). Expressions and nested rules are a rule's parameters. A rule's
  *         number counts from 0 within its ruleset, not within the table.
- * line    0 to 120 bytes, each 9, 32 or 33 to 126 except 59; the last is no whitespace.
+ * line    0 to 120 bytes, each 9, 13 or 32, which are whitespace, or 33 to 126 except 59; the last is no whitespace.
  * sheet   2(n+1)^2 bytes for a line of n: the free ends, free(c, l) at c(n+1)+l, then in the same order the greedy decimal
  *         ends. 255 for none, else from c to l. Entries with c above l may hold anything.
  *         free(c, l) is where your expression parser ends if it begins at c and the line stops at l. greedy(c, l) is where

@@ -38,6 +38,7 @@ WHITE_PART = """walker.next_token().kind != syntax::TokenKind::Whitespace
                 {
                     return vec![];
                 }"""
+USEFUL = "if !token.kind.is_ignorable()\n            {\n                if nth == 0"
 CLOSER = "if paren_nesting == 0\n                    { break; }\n                \n                paren_nesting -= 1;"
 
 # What is wrong, in which file, the text there and what stands for it: one text or several.
@@ -78,6 +79,12 @@ WRONG = [
      "let index = self.cursor_index;\n\n        let c"),
     ("a whitespace part fails at the limit", MATCHER, "if !walker.is_over() &&\n                    walker.next_token()",
      "if walker.next_token()"),
+    # byte 13 no whitespace, in one of the four ways in which the text asks for whitespace
+    ("13 seen before the cut", WALKER, "if !syntax::token::is_whitespace(c)", "if c == '\\r' || !syntax::token::is_whitespace(c)"),
+    ("13 in a line's prefix", MAP, "if syntax::is_whitespace(c) {", "if c != '\\r' && syntax::is_whitespace(c) {"),
+    ("13 not enough for a whitespace part", MATCHER, WHITE_PART,
+     WHITE_PART.replace("walker", "(walker.next_char() == '\\r' || walker", 1).replace("Whitespace", "Whitespace)")),
+    ("13 a useful place", WALKER, USEFUL, USEFUL.replace("()", "() || self.char_at(byte_index) == '\\r'")),
     # prefixes
     ("prefixes of 3", MAP, "const MAX_PREFIX_SIZE: usize = 4;", "const MAX_PREFIX_SIZE: usize = 3;"),
     ("prefixes of 5", MAP, "const MAX_PREFIX_SIZE: usize = 4;", "const MAX_PREFIX_SIZE: usize = 5;"),

@@ -4,6 +4,7 @@
  */
 #include "tholdrimash.h"
 
+#include <ctype.h>
 #include <stdio.h>
 #include <stdlib.h>
 #include <string.h>
@@ -165,6 +166,9 @@ static void on_t(void) {
 
     call c = good;
     both("bench 1", c, matched, whole);
+    c.line = "mov\rp";
+    both("bench 1, a carriage return for the space", c, matched, whole);
+    c = good;
     c.budget = 14;
     refused("bench 2, budget 14", c, (tholdrimash_answer){.number = THOLDRIMASH_SPENT, .visits = 14});
     c.budget = 15;
@@ -178,6 +182,12 @@ static void on_t(void) {
     refused("a semicolon", c, (tholdrimash_answer){.number = THOLDRIMASH_BAD_LINE, .place = 3});
     c.line = "mov ";
     refused("a line that ends in a space", c, (tholdrimash_answer){.number = THOLDRIMASH_BAD_LINE, .place = 3});
+    c.line = "a\r";
+    refused("a line that ends in a carriage return", c, (tholdrimash_answer){.number = THOLDRIMASH_BAD_LINE, .place = 1});
+    c.line = "\r";
+    refused("a carriage return alone", c, (tholdrimash_answer){.number = THOLDRIMASH_BAD_LINE});
+    c.line = "mov\np";
+    refused("a line feed", c, (tholdrimash_answer){.number = THOLDRIMASH_BAD_LINE, .place = 3});
     c = good;
     c.sheet_len--;
     refused("a sheet one byte short", c, (tholdrimash_answer){.number = THOLDRIMASH_BAD_SHEET});
@@ -439,9 +449,11 @@ static void steps(void) {
         {T, "mov 7", "free(4,5)=5, free(3,5)=5", 0, 13, "1,3, 0,0,1, 0,4,5"},
         {"a x", "ax", "", 0, 3, "1,2, 0,0,0"},
         {"a x", "a x", "", 0, 3, "1,2, 0,0,0"},
+        {"a x", "a\rx", "", 0, 3, "1,2, 0,0,0"},
         {"A x", "aX", "", 0, 3, "1,2, 0,0,0"},
         {"n o p", "  nop", "", 0, 4, "1,3, 0,0,0"},
         {"a ws x", "a x", "", 0, 4, "1,2, 0,0,0"},
+        {"a ws x", "a\rx", "", 0, 4, "1,2, 0,0,0"},
         {"a ws x", "ax", "", 1, 2, NULL},
         {"a ws ws x", "a x", "", 0, 5, "1,2, 0,0,0"},
         {"n o p ws", "nop", "", 0, 5, "1,3, 0,0,0"},
@@ -472,16 +484,16 @@ static void steps(void) {
 /* Chapter 3.4. The rule is an expression, the character, and what follows it in the line; the sheet has an end under
  * that one place. So the line matches exactly if that is the cut. */
 static void cuts_at(const char *line, char wanted, int place) {
-    size_t n = strlen(line);
+    size_t n = strlen(line), start = strspn(line, "\t\r ");
     for (size_t p = 0; p < n; p++) {
-        if ((line[p] | 32) != (wanted | 32)) continue;
+        if (tolower((unsigned char)line[p]) != wanted) continue;
         char rules[64] = "expr", entry[64], words[64];
         for (size_t i = p; i < n; i++) {
             strcat(rules, " ");
             strncat(rules, line + i, 1);
         }
         snprintf(entry, sizeof entry, "free(0,%zu)=%zu", p, p);
-        snprintf(words, sizeof words, "1,%zu, 0,0,1, 0,0,%zu", n - p, p);
+        snprintf(words, sizeof words, "1,%zu, 0,0,1, 0,%zu,%zu", n - p, start, p);
         int is_cut = place >= 0 && (size_t)place == p;
         example e = {rules, line, entry, !is_cut, is_cut ? (uint32_t)(n - p + 2) : 1, is_cut ? words : NULL};
         shows(&e, 1);
@@ -492,6 +504,7 @@ static void cuts(void) {
     cuts_at("a+b", '+', 1);
     cuts_at("+a+b", '+', 2);
     cuts_at("-1-2", '-', 2);
+    cuts_at("\r-1-2", '-', 3);
     cuts_at("(a+b)+c", '+', 5);
     cuts_at("{a+b}+c", '+', 5);
     cuts_at("[a+b]+c", '+', 2);

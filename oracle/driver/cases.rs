@@ -1,6 +1,6 @@
 //! Inputs: tables, lines and sheets made from a seed, short ones exhaustively, programs of several lines, and damaged copies
 //! of good ones.
-use crate::model::{Call, ProgramCall};
+use crate::model::{self, Call, ProgramCall, WHITE};
 use crate::random::Random;
 
 /// Enough for nearly every walk that ends.
@@ -187,7 +187,7 @@ fn expand(random: &mut Random, rulesets: &[(u16, Vec<Rule>)], rule: &Rule, alpha
     let mut line = Vec::new();
     for part in rule {
         match part {
-            256 => line.extend(*random.pick(&[&b" "[..], b" ", b"\t", b"  ", b""])),
+            256 => line.extend(*random.pick(&[&b" "[..], b" ", b"\t", b"\r", b"  ", b" \r", b""])),
             257 => {
                 for _ in 0..*random.pick(&[1, 1, 1, 2, 3]) {
                     line.push(*random.pick(alphabet));
@@ -202,7 +202,7 @@ fn expand(random: &mut Random, rulesets: &[(u16, Vec<Rule>)], rule: &Rule, alpha
             }
             _ => {
                 if random.chance(100) {
-                    line.push(*random.pick(b" \t"));
+                    line.push(*random.pick(&WHITE));
                 }
                 line.push(change_case(random, *part as u8));
             }
@@ -246,7 +246,7 @@ fn pick_sheet(random: &mut Random, line: &[u8]) -> Vec<u8> {
         let end = match how {
             Ends::Limit => l,
             Ends::Token => {
-                let start = crate::model::useful(line, c, l);
+                let start = model::useful(line, c, l);
                 l.min(start + random.pick(&[1, 1, 1, 2, 3]))
             }
             Ends::Start => l.min(c + random.pick(&[0, 0, 1])),
@@ -258,7 +258,7 @@ fn pick_sheet(random: &mut Random, line: &[u8]) -> Vec<u8> {
 
 fn trimmed(mut line: Vec<u8>, most: usize) -> Vec<u8> {
     line.truncate(most);
-    while line.last().is_some_and(|b| crate::model::is_white(*b)) {
+    while line.last().is_some_and(|b| model::is_white(*b)) {
         line.pop();
     }
     line
@@ -293,7 +293,7 @@ fn kin(random: &mut Random) -> Case {
     let mut line = Vec::new();
     for byte in &word {
         if random.chance(140) {
-            line.push(*random.pick(b" \t"));
+            line.push(*random.pick(&WHITE));
         }
         line.push(change_case(random, *byte));
     }
@@ -302,7 +302,7 @@ fn kin(random: &mut Random) -> Case {
         if half == 1 && !greedy {
             return 255;
         }
-        let white = c < l && crate::model::is_white(line[c]);
+        let white = c < l && model::is_white(line[c]);
         l.min(c + 1 + white as usize) as u8
     });
     Case {
@@ -319,7 +319,11 @@ fn chain(random: &mut Random) -> Case {
     for s in 0..count {
         let mut rule: Rule = random.pick(&[vec![], vec![], vec![97], vec![98, 256]]).clone();
         for part in &rule {
-            line.push(if *part == 256 { b' ' } else { *part as u8 });
+            line.push(if *part == 256 {
+                *random.pick(&WHITE)
+            } else {
+                *part as u8
+            });
         }
         let exact = rule.clone();
         if s + 1 < count {
@@ -367,7 +371,7 @@ fn many(random: &mut Random) -> Case {
             .collect();
         rulesets.push((*random.pick(&[0, 0, 1]), rules));
     }
-    let line = (0..random.between(0, 6)).map(|_| *random.pick(b"aabbAB ")).collect();
+    let line = (0..random.between(0, 6)).map(|_| *random.pick(b"aabbAB \r")).collect();
     let line = trimmed(line, 6);
     let sheet = pick_sheet(random, &line);
     Case { rulesets, line, sheet }
@@ -431,7 +435,7 @@ pub fn make(random: &mut Random) -> Case {
     let tops: Vec<Rule> = tops.cloned().collect();
     let mut line: Vec<u8>;
     let mut with_white = alphabet.to_vec();
-    with_white.extend(b" \t");
+    with_white.extend(WHITE);
     if !tops.is_empty() && random.chance(750) {
         let rule = random.pick(&tops).clone();
         line = expand(random, &rulesets, &rule, alphabet, 0);
@@ -625,13 +629,14 @@ fn all_sheets(n: usize) -> Vec<Vec<u8>> {
 }
 
 /// Every rule of at most three parts out of `a`, `+`, whitespace, expression and nested, with one nested ruleset of a rule
-/// `a` and a rule that is an expression, on every line of at most two bytes out of `a`, `+` and a space, with every sheet.
+/// `a` and a rule that is an expression, on every line of at most two bytes out of `a`, `+`, a space and a carriage return,
+/// with every sheet.
 pub fn short(mut each: impl FnMut(&Case)) {
     let rules = all_up_to(&[b'a' as u16, b'+' as u16, 256, 257, 513], 3);
-    let lines = all_up_to(b"a+ ", 2);
+    let lines = all_up_to(b"a+ \r", 2);
     for n in 0..=2 {
         for sheet in all_sheets(n) {
-            for line in lines.iter().filter(|l| l.len() == n && l.last() != Some(&b' ')) {
+            for line in lines.iter().filter(|l| l.len() == n && trimmed(l.to_vec(), n) == **l) {
                 for rule in &rules {
                     each(&Case {
                         rulesets: vec![(0, vec![rule.clone()]), (1, vec![vec![97], vec![257]])],
@@ -666,7 +671,7 @@ pub fn damaged(random: &mut Random, good: &Call) -> Call {
         }
         3 => resize(random, &mut call.table, 97),
         4 => {
-            let mut byte = *random.pick(&[0, 8, 9, 10, 31, 32, 33, 58, 59, 60, 126, 127, 128, 255]);
+            let mut byte = *random.pick(&[0, 8, 9, 10, 12, 13, 14, 31, 32, 33, 58, 59, 60, 126, 127, 128, 255]);
             if random.chance(300) {
                 byte = random.next() as u8;
             }
@@ -676,7 +681,7 @@ pub fn damaged(random: &mut Random, good: &Call) -> Call {
             }
         }
         5 => {
-            call.line.push(*random.pick(b" \ta;"));
+            call.line.push(*random.pick(b" \t\ra;"));
             let n = call.line.len();
             if random.chance(700) {
                 call.sheet = vec![255; 2 * (n + 1) * (n + 1)];
@@ -686,7 +691,7 @@ pub fn damaged(random: &mut Random, good: &Call) -> Call {
             let n = *random.pick(&[119, 120, 121, 122, 200]);
             call.line = vec![b'a'; n];
             if random.chance(300) {
-                call.line[random.below(n)] = *random.pick(b"; \t");
+                call.line[random.below(n)] = *random.pick(b"; \t\r");
             }
             if random.chance(500) {
                 call.sheet = vec![255; 2 * (n + 1) * (n + 1)];

@@ -88,7 +88,7 @@ fn walkers(report: &mut Report, line: &[u8], w: Walker, place: usize, end: usize
 /// Every line of at most four bytes out of letters in both cases, a sign, brackets and whitespace; every walker within it;
 /// every wanted byte among those.
 pub fn short_lines(report: &mut Report) {
-    let bytes = b"aA+(){} ";
+    let bytes = b"aA+(){} \r";
     for line in cases::all_up_to(bytes, 4) {
         for limit in 0..=line.len() {
             for cursor in 0..=limit {
@@ -133,7 +133,7 @@ pub fn all_bytes(report: &mut Report) {
 pub fn random_lines(report: &mut Report, seed: u64, cases: u64) {
     for number in 0..cases {
         let random = &mut Random::new(seed ^ 0x6C69_6E65, number);
-        let alphabet: &[u8] = *random.pick(&[&b"ab+"[..], b"aA+-,() \t", b"a+(){} ", b"(){}[]+ "]);
+        let alphabet: &[u8] = *random.pick(&[&b"ab+"[..], b"aA+-,() \t\r", b"a+(){} \r", b"(){}[]+ "]);
         let most = *random.pick(&[5, 20, 120]);
         let n = random.between(0, most);
         let line: Vec<u8> = (0..n).map(|_| *random.pick(alphabet)).collect();
@@ -180,7 +180,7 @@ fn query(report: &mut Report, table: &[u16], line: &[u8]) {
 }
 
 /// Every rule of at most 5 parts out of two letters and whitespace in one table, against every line of at most 6 bytes out of
-/// those letters, one of them in both cases, and a space.
+/// those letters, one of them in both cases, a space and a carriage return.
 pub fn short_queries(report: &mut Report) {
     let rules = cases::all_up_to(&[b'a' as u16, b'B' as u16, 256], 5);
     let words = |rules: &[Vec<u16>]| {
@@ -194,7 +194,7 @@ pub fn short_queries(report: &mut Report) {
         table
     };
     let table = words(&rules);
-    for line in cases::all_up_to(b"aAb ", 6) {
+    for line in cases::all_up_to(b"aAb \r", 6) {
         query(report, &table, &line);
     }
 }

@@ -15,6 +15,8 @@ fn compare(report: &mut Report, call: &Call, lookup: bool) -> Answer {
     let how = if lookup { "lookup" } else { "scan" };
     report.see("match calls", true);
     report.see(number_name(expected.number), true);
+    let ends_in_13 = call.line.last() == Some(&13) && expected.place as usize + 1 == call.line.len();
+    report.see("  number 3 for a last byte 13", expected.number == 3 && ends_in_13);
     if told != expected || !left_alone {
         report.differ(format!(
             "{how}: proved {told:?} (rest of the buffer unchanged: {left_alone}), document 01 {expected:?} of {}",
@@ -57,6 +59,11 @@ pub fn with_rust(report: &mut Report, call: &Call, lookup: bool, how: &str, told
     report.see("compared with the Rust", true);
     report.see("  visits all shown by the Rust's calls", walked.short_ends == 0);
     report.see("  with a match", told.number == 0);
+    report.see("  with a byte 13 in the line", call.line.contains(&13));
+    report.see(
+        "  with a match and a byte 13 in the line",
+        told.number == 0 && call.line.contains(&13),
+    );
     report.see(
         "  with several matches in the answer",
         words.first().is_some_and(|n| *n > 1),

@@ -51,8 +51,10 @@ pub struct Walked {
 
 // Bytes.
 
+pub const WHITE: [u8; 3] = [9, 13, 32];
+
 pub fn is_white(byte: u8) -> bool {
-    byte == 9 || byte == 32
+    WHITE.contains(&byte)
 }
 
 pub fn lowered(byte: u8) -> u8 {
@@ -183,7 +185,7 @@ pub fn read_table(words: &[u16]) -> Option<Table> {
 
 /// The place that number 3 returns for a bad line.
 fn bad_line(line: &[u8]) -> Option<u32> {
-    let allowed = |b: &u8| *b == 9 || *b == 32 || ((33..=126).contains(b) && *b != 59);
+    let allowed = |b: &u8| is_white(*b) || ((33..=126).contains(b) && *b != 59);
     if line.len() > LONGEST_LINE {
         return Some(120);
     }

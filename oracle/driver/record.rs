@@ -290,6 +290,37 @@ fn steps(sample: &mut Sample) {
     sample.both("a rule with no parts on a line", &call(&[&[""]], "a", &[]));
 }
 
+/// Byte 13 wherever whitespace is asked for, at every place of a line, and last, where it is refused as any whitespace is.
+fn carriage_returns(sample: &mut Sample) {
+    let t: &[&[&str]] = &[&["mov {}", "mov {1}"], &["p", "q"]];
+    sample.both("13 for the space of bench 1", &call(t, "mov\rp", &[[0, 3, 5, 5]]));
+    let six: &[&[&str]] = &[&["movq", "movp", "mov {}", "ovp"]];
+    sample.both("13 in a line's prefix", &call(six, "\r MoV\rp", &[[0, 5, 7, 7]]));
+    sample.both("13 at a whitespace part", &call(&[&["a x"]], "a\rx", &[]));
+    sample.both("13 before an exact part", &call(&[&["ax"]], "a\rx", &[]));
+    let cuts = [[0, 0, 3, 3], [0, 0, 1, 1]];
+    sample.both("no cut with 13 alone before it", &call(&[&["{}-2"]], "\r-1-2", &cuts));
+    sample.both("a cut after 13", &call(&[&["{}+b"]], "a\r+b", &[[0, 0, 2, 1]]));
+    let same = [[0, 0, 5, 2], [0, 0, 3, 3], [1, 0, 5, 2]];
+    sample.both(
+        "ends with one useful place, past 13",
+        &call(&[&["{}+a"]], "aa\r+a", &same),
+    );
+    sample.both(
+        "an argument's start past 13",
+        &call(&[&["a{}", "a{1}"], &["b"]], "a\rb", &[[0, 1, 3, 3]]),
+    );
+    for place in 0..=2 {
+        let mut line = String::from("ab");
+        line.insert(place, '\r');
+        sample.both(
+            &format!("13 at {place} of a line of 3"),
+            &call(&[&["ab", "a b", " ab"]], &line, &[]),
+        );
+    }
+    sample.both("13 alone", &call(&[&[""]], "\r", &[]));
+}
+
 /// So many rulesets, all top, rules in the first of them, and parts in each rule, all `b` but those of the last rule, which
 /// are `a`; on so many `a`.
 fn large(rulesets: usize, rules: usize, parts: usize) -> Call {
@@ -408,7 +439,17 @@ fn refusals(sample: &mut Sample) {
         c.table.truncate(c.table.len() - 1)
     });
     sample.but("bad table, no word", &good, |c| c.table.clear());
-    for (place, byte) in [(0, 59), (1, 127), (1, 32), (0, 0), (1, 9), (0, 10)] {
+    for (place, byte) in [
+        (0, 59),
+        (1, 127),
+        (1, 32),
+        (0, 0),
+        (1, 9),
+        (0, 10),
+        (1, 13),
+        (0, 12),
+        (0, 14),
+    ] {
         let name = format!("bad line, byte {place} is {byte}");
         sample.but(&name, &good, |c| c.line[place] = byte);
     }
@@ -500,6 +541,7 @@ pub fn write(folder: &str) -> std::io::Result<()> {
     let sample = &mut Sample::default();
     bench(sample);
     steps(sample);
+    carriage_returns(sample);
     limits(sample);
     refusals(sample);
     selections(sample);

@@ -1,9 +1,9 @@
 //! Stands in for customasm's `syntax`, but for `walker.rs`, which is the published text.
 //!
-//! Missing there: `is_whitespace`, `is_ignorable` and `decide_next_token`. Whitespace is the bytes 9 and 32, as document 01
-//! says, and only whitespace is ignorable (a line has no comment: it has no semicolon). Of a token the walker and the
-//! matcher use only whether it is whitespace and where the next one begins, so the tokens here are a run of whitespace, a
-//! brace, a run of letters and digits, or any other single character.
+//! Missing there: `is_whitespace`, `is_ignorable` and `decide_next_token`. Whitespace is the bytes 9, 13 and 32, as document
+//! 01 says since order 4, and only whitespace is ignorable (a line has no comment: it has no semicolon). Of a token the
+//! walker and the matcher use only whether it is whitespace and where the next one begins, so the tokens here are a run of
+//! whitespace, a brace, a run of letters and digits, or any other single character.
 pub use token::{decide_next_token, is_whitespace, Token, TokenKind};
 pub use walker::Walker;
 
@@ -40,7 +40,7 @@ pub mod token {
     }
 
     pub fn is_whitespace(c: char) -> bool {
-        c == ' ' || c == '\t'
+        c == ' ' || c == '\t' || c == '\r'
     }
 
     /// Kind and length of the token that `src`, which is not empty, begins with.

@@ -141,7 +141,8 @@ impl Error for Answer {}
 ///   of ruleset r). The last two are parameters. A rule has at most 64 parts, at most 8 of them
 ///   parameters; the part counts add up to at most P. A rule's number counts from 0 within its
 ///   ruleset, not within the table.
-/// - `line`: 0 to 120 bytes, each 9, 32 or 33 to 126 except 59. The last is no whitespace.
+/// - `line`: 0 to 120 bytes, each 9, 13 or 32, which are whitespace, or 33 to 126 except 59. The
+///   last is no whitespace.
 /// - `sheet`: 2(n+1)^2 bytes for a line of n: the free ends, free(c, l) at c(n+1)+l, then in the
 ///   same order the greedy decimal ends. 255 is none, else the end is from c to l. Entries with c
 ///   above l may hold anything. free(c, l) is where the caller's expression parser ends if it
@@ -198,6 +199,10 @@ impl Error for Answer {}
 /// assert_eq!(told.to_string(), "the budget of 3 visits is spent");
 ///
 /// assert_eq!(match_line(&[], b"nop", &sheet, 100, &mut short), Answer::BadTable);
+///
+/// // Take off the line end and the whitespace before it: of `nop\r\n`, both bytes.
+/// let told = match_line(&nop, b"nop\r", &[255; 2 * 5 * 5], 100, &mut short);
+/// assert_eq!(told, Answer::BadLine { place: 3 });
 /// ```
 pub fn match_line(
     table: &[u16],

@@ -108,8 +108,10 @@ fn over(part: &[u8], start: usize, first: u8, last: u8) -> usize {
 
 // A byte's class, or 0 if it has none.
 pub fn class(byte: u8) -> u8 {
+    if token::is_whitespace(byte) {
+        return WHITESPACE;
+    }
     match byte {
-        9 | b' ' => WHITESPACE,
         b'a'..=b'z' | b'A'..=b'Z' => LETTER,
         b'0'..=b'9' => DIGIT,
         _ => 0,

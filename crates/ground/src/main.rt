@@ -189,6 +189,9 @@ fn lines() {
     checked(b"a;b");
     checked(b"a\x01b;");
     checked(b"a\rb");
+    checked(b"ab\r");
+    checked(b"\r");
+    checked(b"a\nb");
     checked(b"caf\xe9");
     checked(&[97u8; 120]);
     checked(&[97u8; 121]);

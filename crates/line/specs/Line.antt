@@ -13,7 +13,7 @@ use Rattle.syntax.specs.Walker.{byteAt}
 use Rattle.line.specs.declared.LineCheck.{LineCheck}
 use Rattle.line.specs.declared.LineCheck.the-variants.{Good, Bad}
 
--- each byte is 9, 32 or 33 to 126 except 59
+-- each byte is whitespace, or 33 to 126 except 59
 unfoldable pub isAllowed : ℕ → Bool
 isAllowed b = isWhitespace b || leb 33 b && leb b 126 && not (eqb b 59)
 

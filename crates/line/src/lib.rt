@@ -17,7 +17,7 @@ pub enum LineCheck {
     Bad { place: usize },
 }
 
-// Whether a line may hold the byte: 9, 32, or 33 to 126 except 59.
+// Whether a line may hold the byte: whitespace, or 33 to 126 except 59.
 fn is_allowed(b: u8) -> bool
     ensures { λ r. ⌜ r ≡ isAllowed b ⌝ }
 {
@@ -49,8 +49,10 @@ pub fn check_line(line: &[u8]) -> LineCheck
         i += 1;
     }
     if 0 < i {
-        if token::is_whitespace(line[i - 1]) {
-            return LineCheck::Bad { place: i - 1 };
+        let place = i - 1;
+        let last = line[place];
+        if token::is_whitespace(last) {
+            return LineCheck::Bad { place };
         }
     }
     LineCheck::Good

@@ -95,7 +95,8 @@ class-small b h = omega (arith, lowered-below b h, kind-small b)
 
 pub white-above : (k b : ℕ) → k < b → 32 ≤ k → false ≡ isWhitespace b
 unfolding isWhitespace
-white-above k b h l = rw (isWhitespace, ne-eqb b 9 (λ e. omega arith), ne-eqb b 32 (λ e. omega arith))
+white-above k b h l =
+    rw (isWhitespace, ne-eqb b 9 (λ e. omega arith), ne-eqb b 13 (λ e. omega arith), ne-eqb b 32 (λ e. omega arith))
 
 pub low-below : (k b : ℕ) → b < k → k ≤ 65 → b ≡ lowered b
 unfolding lowered

@@ -5,9 +5,9 @@ use Prim.Native.Nat.{ℕ, _+_, _*_}
 use lib.Dec.{eqb, leb}
 use Rattle.plain.specs.Choice.{select}
 
--- whitespace is 9 and 32
+-- whitespace is 9, 13 and 32
 unfoldable pub isWhitespace : ℕ → Bool
-isWhitespace b = eqb b 9 || eqb b 32
+isWhitespace b = eqb b 9 || eqb b 13 || eqb b 32
 
 abbrev pub isSolid : ℕ → Bool
 isSolid b = not (isWhitespace b)

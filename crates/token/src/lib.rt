@@ -20,7 +20,7 @@ const CLASSES: [u16; 256] = [
     10,
     11,
     12,
-    13,
+    269,
     14,
     15,
     16,
@@ -305,7 +305,7 @@ fn class(b: u8) -> u16
     table[at]
 }
 
-// Whether the byte is 9 or 32.
+// Whether the byte is 9, 13 or 32.
 pub fn is_whitespace(b: u8) -> bool
     ensures answers { λ r. ⌜ r ≡ isWhitespace b ⌝ }
 {

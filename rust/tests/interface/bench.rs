@@ -1,6 +1,6 @@
 //! Document 01's bench cases. Cases 3, 4 and 5 are cuts, and show by the sheet: it has an end under
 //! the cut and none under the line's end, or an end under a place that is no cut. Case 6 shows by
-//! the rules that lookup leaves out.
+//! the rules that lookup leaves out. With a carriage return for a space, each answers the same.
 
 use crate::lent::{selected, Call};
 use crate::tables::{sheet, table, ALL, MOV};
@@ -31,6 +31,8 @@ fn case_1_overlapping_rules() {
     };
     let whole = vec![1, 4, 0, 1, 1, 1, 4, 5, 1, 0, 0];
     assert_eq!(MOV.both(), (matched, whole));
+    let line = b"mov\rp";
+    assert_eq!(Call { line, ..MOV }.both(), MOV.both());
     assert_eq!(matched.number(), 0);
 }
 
@@ -48,6 +50,10 @@ fn case_3_cut_for_plus() {
     told(b"?+b;", b"a+b", &[(0, 1, 1)], 4, &ends_at(1));
     told(b"?+b;", b"+a+b", &[(0, 2, 2)], 4, &ends_at(2));
     told(b"?+c;", b"(a+b)+c", &[(0, 5, 5)], 4, &ends_at(5));
+    // Whitespace is nothing seen: the cut is the second sign, and the argument begins at the first.
+    let from_1 = [1, 2, 0, 0, 1, 0, 1, 3];
+    told(b"?-2;", b"\r-1-2", &[(0, 3, 3)], 4, &from_1);
+    told(b"?-1-2;", b"\r-1-2", &[(0, 1, 1)], 1, &[]);
 }
 
 #[test]
@@ -68,19 +74,21 @@ fn case_5_cut_for_brackets() {
 /// Lookup tries `mov` and whitespace, then `movp`, and neither `movq` nor `ovp`.
 #[test]
 fn case_6_prefixes() {
-    let call = Call {
-        table: &table(b"movq;movp;mov ?;ovp;"),
-        line: b"  MoV p",
-        sheet: &sheet(7, &[(5, 7, 7)]),
-        budget: ALL,
-        room: 6,
-    };
-    for (told, visits) in [(call.scan(), 16), (call.lookup(), 11)] {
-        let words = 5;
-        assert_eq!(
-            told,
-            (Answer::Matched { visits, words }, vec![1, 4, 0, 1, 0])
-        );
+    for line in [b"  MoV p", b"\r MoV\rp"] {
+        let call = Call {
+            table: &table(b"movq;movp;mov ?;ovp;"),
+            line,
+            sheet: &sheet(7, &[(5, 7, 7)]),
+            budget: ALL,
+            room: 6,
+        };
+        for (told, visits) in [(call.scan(), 16), (call.lookup(), 11)] {
+            let words = 5;
+            assert_eq!(
+                told,
+                (Answer::Matched { visits, words }, vec![1, 4, 0, 1, 0])
+            );
+        }
     }
 }
 
@@ -96,12 +104,15 @@ fn case_8_whitespace_between() {
     told(b"a x;", b"a x", &[], 4, &both);
     told(b"ax;", b"ax", &[], 3, &both);
     told(b"ax;", b"a x", &[], 3, &both);
+    told(b"a x;", b"a\rx", &[], 4, &both);
+    told(b"ax;", b"a\rx", &[], 3, &both);
 }
 
 #[test]
 fn case_9_ends_with_one_useful_place() {
     let end_2 = [1, 2, 0, 0, 1, 0, 0, 2];
     told(b"?+c;", b"ab +c", &[(0, 5, 2), (0, 3, 3)], 4, &end_2);
+    told(b"?+c;", b"ab\r+c", &[(0, 5, 2), (0, 3, 3)], 4, &end_2);
 }
 
 #[test]

@@ -477,11 +477,11 @@ impl Random {
             0 => self.pick(&[119, 120, 121, 122, 130]),
             _ => self.below(7),
         };
-        let mut bytes: Vec<u8> = (0..n).map(|_| self.pick(b"aaabbAB+, ()movpq")).collect();
+        let mut bytes: Vec<u8> = (0..n).map(|_| self.pick(b"aaabbAB+, \r()movpq")).collect();
         if n > 0 && self.one_in(15) {
             let at = self.below(n);
             bytes[at] = self.pick(b";\0\x7f\n\r ");
-        } else if bytes.last() == Some(&b' ') {
+        } else if let Some(b' ' | b'\r') = bytes.last() {
             bytes[n - 1] = b'a';
         }
         let sheet = match sheet_len(n) {

@@ -42,6 +42,9 @@ fn bad_line_is_3_with_its_place() {
         (b"a\0", 1),
         (b"a ", 1),
         (b" ", 0),
+        (b"a\r", 1),
+        (b"\r", 0),
+        (b"a\nb", 1),
     ] {
         Call { line, ..GOOD }.refused(3, Answer::BadLine { place });
     }

@@ -40,17 +40,14 @@ loop-less c = search needs
 loop-again : tie.Need-loop-again Inv-loop μ-loop
 loop-again c = (omega arith, bad-later _ _ (c .before .before .before .loop-test .taken) (sym (c .before .is-allowed .ensures) ∙ not-false _ (c .if2 .left)) ∙ c .before .before .before .before .loop .inv .1)
 
-sub-is-whitespace : tie.Need-sub-is-whitespace Inv-loop μ-loop
-sub-is-whitespace c = search needs
+sub-place : tie.Need-sub-place Inv-loop μ-loop
+sub-place c = search needs
 
-shared-slice-read-is-whitespace : tie.Need-shared-slice-read-is-whitespace Inv-loop μ-loop
-shared-slice-read-is-whitespace c = search needs
+shared-slice-read-last : tie.Need-shared-slice-read-last Inv-loop μ-loop
+shared-slice-read-last c = search needs
 
 is-whitespace-requires : tie.Need-is-whitespace-requires Inv-loop μ-loop
 is-whitespace-requires c κs = search needs
-
-sub-t14 : tie.Need-sub-t14 Inv-loop μ-loop
-sub-t14 c = search needs
 
 returns-3 : tie.Need-returns-3 Inv-loop μ-loop
 returns-3 c =
@@ -81,10 +78,9 @@ check-line-spec =
     add-i
     loop-less
     loop-again
-    sub-is-whitespace
-    shared-slice-read-is-whitespace
+    sub-place
+    shared-slice-read-last
     is-whitespace-requires
-    sub-t14
     returns-3
     returns-4
     returns-5)
