@@ -1,6 +1,8 @@
--- Document 01's bench table: every case computed from the definitions, and all of them together.
+-- Document 01's bench table: every case computed from the definitions, and all of them together. Order 4 made 13 whitespace,
+-- so each stands with a tab and with a carriage return for a space too.
 use mathlib.Core.Path.{_≡_, refl}
-use mathlib.Core.List.{[], _∷_, flatMap}
+use mathlib.Core.List.{List, [], _∷_, flatMap}
+use Prim.Native.Nat.{ℕ}
 use Rattle.plain.specs.Below.{everyBelow, sumBelow, countBelow}
 use Rattle.plain.specs.Lists.{range, keepIf, some-of, count, listed}
 use Rattle.token.specs.Token.{isWhitespace, lowered}
@@ -19,11 +21,12 @@ use Rattle.readings.specs.Answer.{exactParts, greatest, greatestCount, best, al
 use Rattle.readings.specs.Call.{budgetFits, callWith}
 use Rattle.resolver.specs.Outcome.{ofKind, outcomeOf, isBad, outcomesOf, wordOf, isGuess, isResolved, isKnown, sizeOf, asGuess}
 use Rattle.resolver.specs.Selection.{marked, lesser, leastSize, sameSize, hasSize, indicesOf, choiceOf, answerOn, answerOf, selected}
-use Rattle.bench.specs.Cases.{cases}
+use Rattle.bench.specs.Cases.{cases, atEnds, nines}
 
-pub bench :
-    cases
-    ≡ (0 ∷ 15 ∷ 11 ∷ 0 ∷ 1 ∷ 4 ∷ 0 ∷ 1 ∷ 1 ∷ 1 ∷ 4 ∷ 5 ∷ 1 ∷ 0 ∷ 0 ∷ 9 ∷ [])
+-- what document 01 says of each
+abbrev answers : List (List ℕ)
+answers =
+    (0 ∷ 15 ∷ 11 ∷ 0 ∷ 1 ∷ 4 ∷ 0 ∷ 1 ∷ 1 ∷ 1 ∷ 4 ∷ 5 ∷ 1 ∷ 0 ∷ 0 ∷ 9 ∷ [])
     ∷ (0 ∷ 15 ∷ 11 ∷ 0 ∷ 1 ∷ 4 ∷ 0 ∷ 1 ∷ 1 ∷ 1 ∷ 4 ∷ 5 ∷ 1 ∷ 0 ∷ 0 ∷ 9 ∷ [])
     ∷ (6 ∷ 14 ∷ 0 ∷ 0 ∷ 9 ∷ 9 ∷ 9 ∷ 9 ∷ 9 ∷ 9 ∷ 9 ∷ 9 ∷ 9 ∷ 9 ∷ 9 ∷ 9 ∷ [])
     ∷ (0 ∷ 15 ∷ 11 ∷ 0 ∷ 1 ∷ 4 ∷ 0 ∷ 1 ∷ 1 ∷ 1 ∷ 4 ∷ 5 ∷ 1 ∷ 0 ∷ 0 ∷ 9 ∷ [])
@@ -49,5 +52,9 @@ pub bench :
     ∷ (13 ∷ 2 ∷ 134 ∷ 70 ∷ 70 ∷ 9 ∷ 9 ∷ 9 ∷ [])
     ∷ (0 ∷ 2 ∷ 134 ∷ 70 ∷ 70 ∷ 1 ∷ 2 ∷ 9 ∷ [])
     ∷ []
-unfolding cases flatMap everyBelow sumBelow countBelow range keepIf some-of count listed isWhitespace lowered held over skipped usefulFrom useful gap isWanted isStray nesting passedTo takenIn turnOf searched cutFrom cut isAllowed firstBad endsOpen faultAt wordAt flagAt fieldAt partWordAt partOf ruleFrom ruleWords ruleParts inRange sizesFit lengthFits flagsFit rulesetBefore rulesetFits rulesetsFit rangeFits rangesFit countsFit parametersIn parametersFit isPart partsFit tableFits recordsOf isTop rulesetOf leading rulePrefix linePrefix sized entryAt entryFits fitsAt rowFits halfFits sheetFits readable endIn lookahead sceneOf run _then_ each mapped exactly expectChar cutFor candidates anySame fresh firsts ends limits walk rulesetWalk under trial tries topPairs scan withPrefix foundIn lookup exactParts greatest greatestCount best allWords wordsOf budgetFits callWith ofKind outcomeOf isBad outcomesOf wordOf isGuess isResolved isKnown sizeOf asGuess marked lesser leastSize sameSize hasSize indicesOf choiceOf answerOn answerOf selected
-bench = refl
+
+pub bench :
+    (cases 32 ≡ answers) × (cases 9 ≡ answers) × (cases 13 ≡ answers)
+    × (atEnds 13 ≡ (3 ∷ 0 ∷ 0 ∷ 3 ∷ nines) ∷ (3 ∷ 0 ∷ 0 ∷ 0 ∷ nines) ∷ (3 ∷ []) ∷ [])
+unfolding cases atEnds flatMap everyBelow sumBelow countBelow range keepIf some-of count listed isWhitespace lowered held over skipped usefulFrom useful gap isWanted isStray nesting passedTo takenIn turnOf searched cutFrom cut isAllowed firstBad endsOpen faultAt wordAt flagAt fieldAt partWordAt partOf ruleFrom ruleWords ruleParts inRange sizesFit lengthFits flagsFit rulesetBefore rulesetFits rulesetsFit rangeFits rangesFit countsFit parametersIn parametersFit isPart partsFit tableFits recordsOf isTop rulesetOf leading rulePrefix linePrefix sized entryAt entryFits fitsAt rowFits halfFits sheetFits readable endIn lookahead sceneOf run _then_ each mapped exactly expectChar cutFor candidates anySame fresh firsts ends limits walk rulesetWalk under trial tries topPairs scan withPrefix foundIn lookup exactParts greatest greatestCount best allWords wordsOf budgetFits callWith ofKind outcomeOf isBad outcomesOf wordOf isGuess isResolved isKnown sizeOf asGuess marked lesser leastSize sameSize hasSize indicesOf choiceOf answerOn answerOf selected
+bench = (refl, refl, refl, refl)

@@ -1,4 +1,5 @@
--- Document 01's twelve bench cases, as calls of the definitions. Each gives a list of numbers, so that all stand in one table.
+-- Document 01's twelve bench cases, as calls of the definitions, and its answers. Each gives a list of numbers, so that all
+-- stand in one table.
 use mathlib.Core.Bool.{true, false}
 use mathlib.Core.Option.{Option, none, some}
 use mathlib.Core.List.{List, [], _∷_, _++_}
@@ -39,30 +40,31 @@ placed (some p) = p ∷ []
 abbrev pub cutIn : ℕ → List ℕ → List ℕ
 cutIn x line = placed (cut line x (walkerAt line (length line) 0))
 
--- table T, the line `mov p`, and a sheet with free(3, 5) = 5
+-- table T, a sheet with free(3, 5) = 5, and the line `mov p`, with this byte where the space is
 abbrev pub T : List ℕ
 T =
     2 ∷ 4 ∷ 12 ∷ 0 ∷ 1 ∷ 0 ∷ 0 ∷ 5 ∷ 0 ∷ 5 ∷ 5 ∷ 1 ∷ 10 ∷ 1 ∷ 1 ∷ 11 ∷ 1
     ∷ 109 ∷ 111 ∷ 118 ∷ 256 ∷ 257 ∷ 109 ∷ 111 ∷ 118 ∷ 256 ∷ 513 ∷ 112 ∷ 113 ∷ []
 
-abbrev pub movP : List ℕ
-movP = 109 ∷ 111 ∷ 118 ∷ 32 ∷ 112 ∷ []
-
 abbrev pub free35 : List ℕ
 free35 = set (noEnds 72) 23 5
+
+abbrev pub mov-p : ℕ → List ℕ
+mov-p w = 109 ∷ 111 ∷ 118 ∷ w ∷ 112 ∷ []
 
 -- a rule on a line without expressions
 abbrev pub tried : List ℕ → List ℕ → ℕ → List ℕ
 tried ps line entries = shown (scanCall (oneRule ps) line (noEnds entries) 1000000 nines)
 
-unfoldable pub cases : List (List ℕ)
-cases =
+-- the cases, with this byte wherever document 01 has a space: any whitespace does
+unfoldable pub cases : ℕ → List (List ℕ)
+cases w =
     -- 1, by scan and by lookup
-    shown (scanCall T movP free35 1000000 nines)
-    ∷ shown (lookupCall T movP free35 1000000 nines)
+    shown (scanCall T (mov-p w) free35 1000000 nines)
+    ∷ shown (lookupCall T (mov-p w) free35 1000000 nines)
     -- 2
-    ∷ shown (scanCall T movP free35 14 nines)
-    ∷ shown (scanCall T movP free35 15 nines)
+    ∷ shown (scanCall T (mov-p w) free35 14 nines)
+    ∷ shown (scanCall T (mov-p w) free35 15 nines)
     -- 3: `a+b`, `+a+b`, `(a+b)+c`
     ∷ cutIn 43 (97 ∷ 43 ∷ 98 ∷ [])
     ∷ cutIn 43 (43 ∷ 97 ∷ 43 ∷ 98 ∷ [])
@@ -75,17 +77,17 @@ cases =
     ∷ cutIn 41 (40 ∷ 97 ∷ 41 ∷ 41 ∷ [])
     ∷ cutIn 40 (40 ∷ 40 ∷ [])
     -- 6: `  MoV p`, and `mov` then whitespace
-    ∷ linePrefix (32 ∷ 32 ∷ 77 ∷ 111 ∷ 86 ∷ 32 ∷ 112 ∷ [])
+    ∷ linePrefix (w ∷ w ∷ 77 ∷ 111 ∷ 86 ∷ w ∷ 112 ∷ [])
     ∷ rulePrefix (Exact 109 ∷ Exact 111 ∷ Exact 118 ∷ Whitespace ∷ [])
     -- 7: `nop`, whitespace, on `nop`
     ∷ tried (110 ∷ 111 ∷ 112 ∷ 256 ∷ []) (110 ∷ 111 ∷ 112 ∷ []) 32
     -- 8: `a`, whitespace, `x` and `a`, `x`, on `ax` and `a x`
     ∷ tried (97 ∷ 256 ∷ 120 ∷ []) (97 ∷ 120 ∷ []) 18
-    ∷ tried (97 ∷ 256 ∷ 120 ∷ []) (97 ∷ 32 ∷ 120 ∷ []) 32
+    ∷ tried (97 ∷ 256 ∷ 120 ∷ []) (97 ∷ w ∷ 120 ∷ []) 32
     ∷ tried (97 ∷ 120 ∷ []) (97 ∷ 120 ∷ []) 18
-    ∷ tried (97 ∷ 120 ∷ []) (97 ∷ 32 ∷ 120 ∷ []) 32
+    ∷ tried (97 ∷ 120 ∷ []) (97 ∷ w ∷ 120 ∷ []) 32
     -- 9: an expression, `+`, `c` on `ab +c`, with free(0, 5) = 2 and free(0, 3) = 3
-    ∷ shown (scanCall (oneRule (257 ∷ 43 ∷ 99 ∷ [])) (97 ∷ 98 ∷ 32 ∷ 43 ∷ 99 ∷ []) (set (set (noEnds 72) 5 2) 3 3) 1000000 nines)
+    ∷ shown (scanCall (oneRule (257 ∷ 43 ∷ 99 ∷ [])) (97 ∷ 98 ∷ w ∷ 43 ∷ 99 ∷ []) (set (set (noEnds 72) 5 2) 3 3) 1000000 nines)
     -- 10: a rule with no parts on an empty line
     ∷ tried [] [] 2
     -- 11
@@ -94,4 +96,12 @@ cases =
     -- 12: the last pass, and a guessing pass
     ∷ settled (selected (134 ∷ 70 ∷ 70 ∷ []) true (9 ∷ 9 ∷ 9 ∷ []))
     ∷ settled (selected (134 ∷ 70 ∷ 70 ∷ []) false (9 ∷ 9 ∷ 9 ∷ []))
+    ∷ []
+
+-- This byte at a line's ends: last, alone, and before `-1-2`, which is cut for `-`.
+unfoldable pub atEnds : ℕ → List (List ℕ)
+atEnds w =
+    shown (scanCall T (109 ∷ 111 ∷ 118 ∷ w ∷ []) free35 1000000 nines)
+    ∷ shown (scanCall T (w ∷ []) free35 1000000 nines)
+    ∷ cutIn 45 (w ∷ 45 ∷ 49 ∷ 45 ∷ 50 ∷ [])
     ∷ []

@@ -13,12 +13,13 @@ use native.Mathlib.Omega.{arith}
 use lib.Dec.{eqb}
 use lib.ListN.{length}
 use lib.Seq.{slice, slice-empty, slice-cons, take-suc, drop-append-le, length-take-le}
-use borrow.Author.Tests.{eqb-true, eqb-false, eq-eqb, ne-eqb}
+use borrow.Author.Tests.{eqb-true, eqb-false, eq-eqb}
 use Rattle.plain.specs.Choice.{select}
 use Rattle.plain.specs.Lists.{some-of, count}
 use Rattle.plain.proofs.Tests.{tested, not-both, or-false-left, or-false-right, or-left}
 use Rattle.plain.proofs.Lists.{some-of-append, count-append}
 use Rattle.token.specs.Token.{isWhitespace, isSolid}
+use Rattle.token.proofs.Bytes.{white-kind, no-bracket}
 use Rattle.syntax.specs.Walker.{byteAt, UsefulPlace, usefulFrom, useful}
 use Rattle.syntax.specs.Cut.{isWanted, isStray, nesting, passedTo, CutAt, Cuts, takenIn, turnOf, follow, searched, fresh, cutFrom, cut}
 use Rattle.syntax.specs.declared.walker.Walker.{Walker}
@@ -53,11 +54,6 @@ grown true b n = omega arith
 grown false true n = omega arith
 grown false false n = omega arith
 
--- no bracket is whitespace
-brackets-solid : (isWhitespace 40 ≡ false) × ((isWhitespace 41 ≡ false) × ((isWhitespace 123 ≡ false) × (isWhitespace 125 ≡ false)))
-unfolding isWhitespace
-brackets-solid = (refl, (refl, (refl, refl)))
-
 -- a search that goes on has taken the byte in
 turn-taken : (x b : ℕ) (s t : Search) → Turn.On t ≡ turnOf x b s → t ≡ takenIn b s
 unfolding turnOf
@@ -72,16 +68,8 @@ turn-taken x b s t e = go (isWanted x b s) (isStray b s) e
 turn-blank : (x b : ℕ) → isWhitespace b ≡ true → turnOf x b fresh ≡ Turn.On fresh
 unfolding turnOf isWanted isStray takenIn
 turn-blank x b w =
-    rw (
-      w,
-      ne-eqb b 40 (apart 40 (brackets-solid .0)),
-      ne-eqb b 41 (apart 41 (brackets-solid .1 .0)),
-      ne-eqb b 123 (apart 123 (brackets-solid .1 .1 .0)),
-      ne-eqb b 125 (apart 125 (brackets-solid .1 .1 .1)),
-    )
-  where
-    apart : (o : ℕ) → isWhitespace o ≡ false → b ≡ o → ⊥
-    apart o f e = not-both w (ap isWhitespace e ∙ f)
+    let none = no-bracket b (omega (arith, white-kind b w)) in
+    rw (w, none .0, none .1, none .2, none .3)
 
 -- ---- the code's loop: it begins at the first byte other than whitespace, and holds this at each turn
 

@@ -8,8 +8,8 @@ use lib.Dec.{eqb}
 use borrow.Author.Tests.{eq-eqb, ne-eqb}
 use Rattle.plain.specs.Choice.{select}
 use Rattle.plain.proofs.Tests.{tested, and-both, and-false-left, and-false-right}
-use Rattle.token.specs.Token.{isWhitespace, isSolid, sameLetter, classKind, classOf}
-use Rattle.token.proofs.Bytes.{class-kind, kind-small, bracketOf, kind-bracket, class-small}
+use Rattle.token.specs.Token.{isSolid, sameLetter, classKind, classOf}
+use Rattle.token.proofs.Bytes.{class-kind, kind-small, bracketOf, kind-bracket, no-bracket, class-small}
 use Rattle.syntax.specs.Cut.{isWanted, isStray, takenIn, turnOf}
 use Rattle.syntax.specs.declared.walker.Search.{Search}
 use Rattle.syntax.specs.declared.walker.Turn.{Turn}
@@ -58,19 +58,11 @@ module _ (class b : ℕ) (s : Search) (below : b < 256) (is : class ≡ classOf 
   bracket : (n : ℕ) → class / 256 ≡ n → 2 ≤ n → b ≡ bracketOf n
   bracket n e l = kind-bracket b (omega (arith, kind)) ∙ ap bracketOf (sym kind ∙ e)
 
-  no-bracket : class / 256 < 2 → (o : ℕ) → 2 ≤ classKind o → b ≡ o → ⊥
-  no-bracket h o l e = omega (arith, kind, ap classKind e)
-
   pub nest-none : class / 256 < 2 → on (s .parens) (s .braces) ≡ nested b s
-  unfolding isStray takenIn classKind isWhitespace
+  unfolding isStray takenIn
   nest-none h =
-      rw (
-        seen,
-        ne-eqb b 40 (no-bracket h 40 (omega arith)),
-        ne-eqb b 41 (no-bracket h 41 (omega arith)),
-        ne-eqb b 123 (no-bracket h 123 (omega arith)),
-        ne-eqb b 125 (no-bracket h 125 (omega arith)),
-      )
+      let none = no-bracket b (omega (arith, kind)) in
+      rw (seen, none .0, none .1, none .2, none .3)
 
   pub nest-open-paren : class / 256 ≡ 2 → on (s .parens + 1) (s .braces) ≡ nested b s
   unfolding isStray takenIn

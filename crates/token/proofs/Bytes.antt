@@ -50,6 +50,9 @@ kind-whitespace b = go (isWhitespace b) (eqb b 40) (eqb b 41) (eqb b 123) (eqb b
     go false false false false true = refl
     go false false false false false = refl
 
+pub white-kind : (b : ℕ) → isWhitespace b ≡ true → classKind b ≡ 1
+white-kind b w = eqb-true (classKind b) 1 (kind-whitespace b ∙ w)
+
 -- whitespace, read off a class
 pub class-whitespace : (b c : ℕ) → b < 256 → c ≡ classOf b → eqb (c / 256) 1 ≡ isWhitespace b
 class-whitespace b c h e = ap (λ (n : ℕ). eqb (n / 256) 1) e ∙ ap (λ (n : ℕ). eqb n 1) (class-kind b h) ∙ kind-whitespace b
@@ -73,6 +76,14 @@ kind-bracket b = go (isWhitespace b) (eqb b 40) (eqb b 41) (eqb b 123) (eqb b 12
     go false false false true q e f g i h = eqb-true b 123 g
     go false false false false true e f g i h = eqb-true b 125 i
     go false false false false false e f g i h = absurd (omega arith)
+
+-- a byte of another kind, whitespace among them, is none of the four
+pub no-bracket : (b : ℕ) → classKind b < 2 → (eqb b 40 ≡ false) × (eqb b 41 ≡ false) × (eqb b 123 ≡ false) × (eqb b 125 ≡ false)
+unfolding classKind isWhitespace
+no-bracket b h = (other 40 (omega arith), other 41 (omega arith), other 123 (omega arith), other 125 (omega arith))
+  where
+    other : (o : ℕ) → 2 ≤ classKind o → eqb b o ≡ false
+    other o l = ne-eqb b o (λ e. omega (arith, ap classKind e))
 
 -- there are six kinds, so every class is below 1,536
 pub kind-small : (b : ℕ) → classKind b < 6

@@ -5,7 +5,7 @@ use Prim.Native.Nat.{ℕ, _+_, _*_}
 use lib.Dec.{eqb, leb}
 use Rattle.plain.specs.Choice.{select}
 
--- whitespace is 9, 13 and 32
+-- whitespace is 9, 13 (since order 4) and 32
 unfoldable pub isWhitespace : ℕ → Bool
 isWhitespace b = eqb b 9 || eqb b 13 || eqb b 32
 

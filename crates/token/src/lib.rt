@@ -1,6 +1,6 @@
 // Bytes by their class: one table gives whitespace, openers, closers and the lower-case partner.
-// From `src/syntax/token.rs` of the Rust, whose `is_whitespace` is not in the published text: document 01
-// says what it is. Total: every byte has a class, and nothing is refused.
+// From the Rust's `syntax::token`, whose `is_whitespace` is not in the published text: document 01 says what it is, and
+// order 4 added byte 13. Total: every byte has a class, and nothing is refused.
 ghost use mathlib.Core.Path.{_≡_};
 ghost use Rattle.plain.specs.Lists.{listed};
 ghost use Rattle.token.specs.Token.{classOf, isWhitespace, lowered, sameLetter};
