@@ -15,9 +15,9 @@
 #include <stdint.h>
 
 /* The version of this interface, and of the crate in rust/. */
-#define THOLDRIMASH_VERSION "0.3.0"
+#define THOLDRIMASH_VERSION "0.4.0"
 #define THOLDRIMASH_VERSION_MAJOR 0
-#define THOLDRIMASH_VERSION_MINOR 3
+#define THOLDRIMASH_VERSION_MINOR 4
 #define THOLDRIMASH_VERSION_PATCH 0
 
 #ifdef __cplusplus

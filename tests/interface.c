@@ -442,6 +442,8 @@ static const char *const T = "m o v ws expr | m o v ws sub1 / p | q";
 /* Chapters 2 to 4. */
 static void steps(void) {
     const example examples[] = {
+        {"a x", "a\rx", "", 0, 3, "1,2, 0,0,0"},
+        {"a ws x", "a\rx", "", 0, 4, "1,2, 0,0,0"},
         {"s t e p expr", "step7", "free(4,5)=5", 0, 6, "1,4, 0,0,1, 0,4,5"},
         {"s t e p expr", "step 7", "free(4,6)=6", 0, 6, "1,4, 0,0,1, 0,5,6"},
         {"s t e p ws expr", "step7", "free(4,5)=5", 1, 5, NULL},
@@ -449,11 +451,9 @@ static void steps(void) {
         {T, "mov 7", "free(4,5)=5, free(3,5)=5", 0, 13, "1,3, 0,0,1, 0,4,5"},
         {"a x", "ax", "", 0, 3, "1,2, 0,0,0"},
         {"a x", "a x", "", 0, 3, "1,2, 0,0,0"},
-        {"a x", "a\rx", "", 0, 3, "1,2, 0,0,0"},
         {"A x", "aX", "", 0, 3, "1,2, 0,0,0"},
         {"n o p", "  nop", "", 0, 4, "1,3, 0,0,0"},
         {"a ws x", "a x", "", 0, 4, "1,2, 0,0,0"},
-        {"a ws x", "a\rx", "", 0, 4, "1,2, 0,0,0"},
         {"a ws x", "ax", "", 1, 2, NULL},
         {"a ws ws x", "a x", "", 0, 5, "1,2, 0,0,0"},
         {"n o p ws", "nop", "", 0, 5, "1,3, 0,0,0"},

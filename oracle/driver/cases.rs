@@ -174,6 +174,10 @@ fn pick_rule(random: &mut Random, sets: usize, own: usize, alphabet: &[u8], shap
     rule
 }
 
+fn with_white(alphabet: &[u8]) -> Vec<u8> {
+    [alphabet, &WHITE].concat()
+}
+
 fn change_case(random: &mut Random, byte: u8) -> u8 {
     if byte.is_ascii_alphabetic() && random.chance(300) {
         byte ^ 32
@@ -434,8 +438,7 @@ pub fn make(random: &mut Random) -> Case {
         .flat_map(|(_, rules)| rules);
     let tops: Vec<Rule> = tops.cloned().collect();
     let mut line: Vec<u8>;
-    let mut with_white = alphabet.to_vec();
-    with_white.extend(WHITE);
+    let with_white = with_white(alphabet);
     if !tops.is_empty() && random.chance(750) {
         let rule = random.pick(&tops).clone();
         line = expand(random, &rulesets, &rule, alphabet, 0);
@@ -486,17 +489,18 @@ pub fn joined(table: Vec<u16>, lines: &[Call], room: usize) -> ProgramCall {
 /// Another line for a case's table, one that some top rule might match.
 fn another_line(random: &mut Random, case: &Case) -> Vec<u8> {
     let alphabet = *random.pick(&ALPHABETS);
+    let with_white = with_white(alphabet);
     let tops = case.rulesets.iter().filter(|(flag, _)| *flag == 0);
     let tops: Vec<&Rule> = tops.flat_map(|(_, rules)| rules).collect();
     let mut line = if tops.is_empty() || random.chance(150) {
-        (0..random.between(0, 8)).map(|_| *random.pick(alphabet)).collect()
+        (0..random.between(0, 8)).map(|_| *random.pick(&with_white)).collect()
     } else {
         let rule = (*random.pick(&tops)).clone();
         expand(random, &case.rulesets, &rule, alphabet, 0)
     };
     if random.chance(200) {
         let at = random.between(0, line.len());
-        line.insert(at, *random.pick(alphabet));
+        line.insert(at, *random.pick(&with_white));
     }
     trimmed(line, 14)
 }
@@ -723,8 +727,8 @@ fn damage_word(random: &mut Random, words: &mut [u16]) {
         0 => words[at].wrapping_add(1),
         1 => words[at].wrapping_sub(1),
         2 => *random.pick(&[
-            0, 1, 2, 8, 9, 31, 32, 33, 58, 59, 60, 64, 65, 126, 127, 255, 256, 257, 258, 511, 512, 513, 514, 543, 544,
-            8192, 8193, 65535,
+            0, 1, 2, 8, 9, 13, 31, 32, 33, 58, 59, 60, 64, 65, 126, 127, 255, 256, 257, 258, 511, 512, 513, 514, 543,
+            544, 8192, 8193, 65535,
         ]),
         _ => random.next() as u16,
     };

@@ -15,8 +15,9 @@ fn compare(report: &mut Report, call: &Call, lookup: bool) -> Answer {
     let how = if lookup { "lookup" } else { "scan" };
     report.see("match calls", true);
     report.see(number_name(expected.number), true);
-    let ends_in_13 = call.line.last() == Some(&13) && expected.place as usize + 1 == call.line.len();
-    report.see("  number 3 for a last byte 13", expected.number == 3 && ends_in_13);
+    let last = call.line.len().wrapping_sub(1);
+    let for_last = expected.number == 3 && expected.place as usize == last && last < 120;
+    report.see("  number 3 for a last byte 13", for_last && call.line[last] == 13);
     if told != expected || !left_alone {
         report.differ(format!(
             "{how}: proved {told:?} (rest of the buffer unchanged: {left_alone}), document 01 {expected:?} of {}",

@@ -1,7 +1,7 @@
 //! Stands in for customasm's `syntax`, but for `walker.rs`, which is the published text.
 //!
 //! Missing there: `is_whitespace`, `is_ignorable` and `decide_next_token`. Whitespace is the bytes 9, 13 and 32, as document
-//! 01 says since order 4, and only whitespace is ignorable (a line has no comment: it has no semicolon). Of a token the
+//! 01 with order 4 says, and only whitespace is ignorable (a line has no comment: it has no semicolon). Of a token the
 //! walker and the matcher use only whether it is whitespace and where the next one begins, so the tokens here are a run of
 //! whitespace, a brace, a run of letters and digits, or any other single character.
 pub use token::{decide_next_token, is_whitespace, Token, TokenKind};

@@ -1,8 +1,7 @@
 -- Document 01's bench table: every case computed from the definitions, and all of them together. Order 4 made 13 whitespace,
 -- so each stands with a tab and with a carriage return for a space too.
 use mathlib.Core.Path.{_≡_, refl}
-use mathlib.Core.List.{List, [], _∷_, flatMap}
-use Prim.Native.Nat.{ℕ}
+use mathlib.Core.List.{[], _∷_, flatMap}
 use Rattle.plain.specs.Below.{everyBelow, sumBelow, countBelow}
 use Rattle.plain.specs.Lists.{range, keepIf, some-of, count, listed}
 use Rattle.token.specs.Token.{isWhitespace, lowered}
@@ -21,37 +20,7 @@ use Rattle.readings.specs.Answer.{exactParts, greatest, greatestCount, best, al
 use Rattle.readings.specs.Call.{budgetFits, callWith}
 use Rattle.resolver.specs.Outcome.{ofKind, outcomeOf, isBad, outcomesOf, wordOf, isGuess, isResolved, isKnown, sizeOf, asGuess}
 use Rattle.resolver.specs.Selection.{marked, lesser, leastSize, sameSize, hasSize, indicesOf, choiceOf, answerOn, answerOf, selected}
-use Rattle.bench.specs.Cases.{cases, atEnds, nines}
-
--- what document 01 says of each
-abbrev answers : List (List ℕ)
-answers =
-    (0 ∷ 15 ∷ 11 ∷ 0 ∷ 1 ∷ 4 ∷ 0 ∷ 1 ∷ 1 ∷ 1 ∷ 4 ∷ 5 ∷ 1 ∷ 0 ∷ 0 ∷ 9 ∷ [])
-    ∷ (0 ∷ 15 ∷ 11 ∷ 0 ∷ 1 ∷ 4 ∷ 0 ∷ 1 ∷ 1 ∷ 1 ∷ 4 ∷ 5 ∷ 1 ∷ 0 ∷ 0 ∷ 9 ∷ [])
-    ∷ (6 ∷ 14 ∷ 0 ∷ 0 ∷ 9 ∷ 9 ∷ 9 ∷ 9 ∷ 9 ∷ 9 ∷ 9 ∷ 9 ∷ 9 ∷ 9 ∷ 9 ∷ 9 ∷ [])
-    ∷ (0 ∷ 15 ∷ 11 ∷ 0 ∷ 1 ∷ 4 ∷ 0 ∷ 1 ∷ 1 ∷ 1 ∷ 4 ∷ 5 ∷ 1 ∷ 0 ∷ 0 ∷ 9 ∷ [])
-    ∷ (1 ∷ [])
-    ∷ (2 ∷ [])
-    ∷ (5 ∷ [])
-    ∷ ([])
-    ∷ ([])
-    ∷ (1 ∷ [])
-    ∷ (3 ∷ [])
-    ∷ ([])
-    ∷ (109 ∷ 111 ∷ 118 ∷ 112 ∷ [])
-    ∷ (109 ∷ 111 ∷ 118 ∷ [])
-    ∷ (0 ∷ 5 ∷ 5 ∷ 0 ∷ 1 ∷ 3 ∷ 0 ∷ 0 ∷ 0 ∷ 9 ∷ 9 ∷ 9 ∷ 9 ∷ 9 ∷ 9 ∷ 9 ∷ [])
-    ∷ (1 ∷ 2 ∷ 0 ∷ 0 ∷ 9 ∷ 9 ∷ 9 ∷ 9 ∷ 9 ∷ 9 ∷ 9 ∷ 9 ∷ 9 ∷ 9 ∷ 9 ∷ 9 ∷ [])
-    ∷ (0 ∷ 4 ∷ 5 ∷ 0 ∷ 1 ∷ 2 ∷ 0 ∷ 0 ∷ 0 ∷ 9 ∷ 9 ∷ 9 ∷ 9 ∷ 9 ∷ 9 ∷ 9 ∷ [])
-    ∷ (0 ∷ 3 ∷ 5 ∷ 0 ∷ 1 ∷ 2 ∷ 0 ∷ 0 ∷ 0 ∷ 9 ∷ 9 ∷ 9 ∷ 9 ∷ 9 ∷ 9 ∷ 9 ∷ [])
-    ∷ (0 ∷ 3 ∷ 5 ∷ 0 ∷ 1 ∷ 2 ∷ 0 ∷ 0 ∷ 0 ∷ 9 ∷ 9 ∷ 9 ∷ 9 ∷ 9 ∷ 9 ∷ 9 ∷ [])
-    ∷ (0 ∷ 4 ∷ 8 ∷ 0 ∷ 1 ∷ 2 ∷ 0 ∷ 0 ∷ 1 ∷ 0 ∷ 0 ∷ 2 ∷ 9 ∷ 9 ∷ 9 ∷ 9 ∷ [])
-    ∷ (0 ∷ 1 ∷ 5 ∷ 0 ∷ 1 ∷ 0 ∷ 0 ∷ 0 ∷ 0 ∷ 9 ∷ 9 ∷ 9 ∷ 9 ∷ 9 ∷ 9 ∷ 9 ∷ [])
-    ∷ (0 ∷ 1 ∷ 135 ∷ 71 ∷ 1 ∷ 9 ∷ 9 ∷ [])
-    ∷ (0 ∷ 1 ∷ 135 ∷ 71 ∷ 1 ∷ 9 ∷ 9 ∷ [])
-    ∷ (13 ∷ 2 ∷ 134 ∷ 70 ∷ 70 ∷ 9 ∷ 9 ∷ 9 ∷ [])
-    ∷ (0 ∷ 2 ∷ 134 ∷ 70 ∷ 70 ∷ 1 ∷ 2 ∷ 9 ∷ [])
-    ∷ []
+use Rattle.bench.specs.Cases.{cases, answers, atEnds, nines}
 
 pub bench :
     (cases 32 ≡ answers) × (cases 9 ≡ answers) × (cases 13 ≡ answers)

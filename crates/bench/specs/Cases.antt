@@ -1,5 +1,5 @@
--- Document 01's twelve bench cases, as calls of the definitions, and its answers. Each gives a list of numbers, so that all
--- stand in one table.
+-- Document 01's twelve bench cases, as calls of the definitions, and what it answers. Each gives a list of numbers, so that
+-- all stand in one table.
 use mathlib.Core.Bool.{true, false}
 use mathlib.Core.Option.{Option, none, some}
 use mathlib.Core.List.{List, [], _∷_, _++_}
@@ -49,8 +49,8 @@ T =
 abbrev pub free35 : List ℕ
 free35 = set (noEnds 72) 23 5
 
-abbrev pub mov-p : ℕ → List ℕ
-mov-p w = 109 ∷ 111 ∷ 118 ∷ w ∷ 112 ∷ []
+abbrev pub movP : ℕ → List ℕ
+movP w = 109 ∷ 111 ∷ 118 ∷ w ∷ 112 ∷ []
 
 -- a rule on a line without expressions
 abbrev pub tried : List ℕ → List ℕ → ℕ → List ℕ
@@ -60,11 +60,11 @@ tried ps line entries = shown (scanCall (oneRule ps) line (noEnds entries) 10000
 unfoldable pub cases : ℕ → List (List ℕ)
 cases w =
     -- 1, by scan and by lookup
-    shown (scanCall T (mov-p w) free35 1000000 nines)
-    ∷ shown (lookupCall T (mov-p w) free35 1000000 nines)
+    shown (scanCall T (movP w) free35 1000000 nines)
+    ∷ shown (lookupCall T (movP w) free35 1000000 nines)
     -- 2
-    ∷ shown (scanCall T (mov-p w) free35 14 nines)
-    ∷ shown (scanCall T (mov-p w) free35 15 nines)
+    ∷ shown (scanCall T (movP w) free35 14 nines)
+    ∷ shown (scanCall T (movP w) free35 15 nines)
     -- 3: `a+b`, `+a+b`, `(a+b)+c`
     ∷ cutIn 43 (97 ∷ 43 ∷ 98 ∷ [])
     ∷ cutIn 43 (43 ∷ 97 ∷ 43 ∷ 98 ∷ [])
@@ -96,6 +96,36 @@ cases w =
     -- 12: the last pass, and a guessing pass
     ∷ settled (selected (134 ∷ 70 ∷ 70 ∷ []) true (9 ∷ 9 ∷ 9 ∷ []))
     ∷ settled (selected (134 ∷ 70 ∷ 70 ∷ []) false (9 ∷ 9 ∷ 9 ∷ []))
+    ∷ []
+
+-- what document 01 says of each
+abbrev pub answers : List (List ℕ)
+answers =
+    (0 ∷ 15 ∷ 11 ∷ 0 ∷ 1 ∷ 4 ∷ 0 ∷ 1 ∷ 1 ∷ 1 ∷ 4 ∷ 5 ∷ 1 ∷ 0 ∷ 0 ∷ 9 ∷ [])
+    ∷ (0 ∷ 15 ∷ 11 ∷ 0 ∷ 1 ∷ 4 ∷ 0 ∷ 1 ∷ 1 ∷ 1 ∷ 4 ∷ 5 ∷ 1 ∷ 0 ∷ 0 ∷ 9 ∷ [])
+    ∷ (6 ∷ 14 ∷ 0 ∷ 0 ∷ 9 ∷ 9 ∷ 9 ∷ 9 ∷ 9 ∷ 9 ∷ 9 ∷ 9 ∷ 9 ∷ 9 ∷ 9 ∷ 9 ∷ [])
+    ∷ (0 ∷ 15 ∷ 11 ∷ 0 ∷ 1 ∷ 4 ∷ 0 ∷ 1 ∷ 1 ∷ 1 ∷ 4 ∷ 5 ∷ 1 ∷ 0 ∷ 0 ∷ 9 ∷ [])
+    ∷ (1 ∷ [])
+    ∷ (2 ∷ [])
+    ∷ (5 ∷ [])
+    ∷ ([])
+    ∷ ([])
+    ∷ (1 ∷ [])
+    ∷ (3 ∷ [])
+    ∷ ([])
+    ∷ (109 ∷ 111 ∷ 118 ∷ 112 ∷ [])
+    ∷ (109 ∷ 111 ∷ 118 ∷ [])
+    ∷ (0 ∷ 5 ∷ 5 ∷ 0 ∷ 1 ∷ 3 ∷ 0 ∷ 0 ∷ 0 ∷ 9 ∷ 9 ∷ 9 ∷ 9 ∷ 9 ∷ 9 ∷ 9 ∷ [])
+    ∷ (1 ∷ 2 ∷ 0 ∷ 0 ∷ 9 ∷ 9 ∷ 9 ∷ 9 ∷ 9 ∷ 9 ∷ 9 ∷ 9 ∷ 9 ∷ 9 ∷ 9 ∷ 9 ∷ [])
+    ∷ (0 ∷ 4 ∷ 5 ∷ 0 ∷ 1 ∷ 2 ∷ 0 ∷ 0 ∷ 0 ∷ 9 ∷ 9 ∷ 9 ∷ 9 ∷ 9 ∷ 9 ∷ 9 ∷ [])
+    ∷ (0 ∷ 3 ∷ 5 ∷ 0 ∷ 1 ∷ 2 ∷ 0 ∷ 0 ∷ 0 ∷ 9 ∷ 9 ∷ 9 ∷ 9 ∷ 9 ∷ 9 ∷ 9 ∷ [])
+    ∷ (0 ∷ 3 ∷ 5 ∷ 0 ∷ 1 ∷ 2 ∷ 0 ∷ 0 ∷ 0 ∷ 9 ∷ 9 ∷ 9 ∷ 9 ∷ 9 ∷ 9 ∷ 9 ∷ [])
+    ∷ (0 ∷ 4 ∷ 8 ∷ 0 ∷ 1 ∷ 2 ∷ 0 ∷ 0 ∷ 1 ∷ 0 ∷ 0 ∷ 2 ∷ 9 ∷ 9 ∷ 9 ∷ 9 ∷ [])
+    ∷ (0 ∷ 1 ∷ 5 ∷ 0 ∷ 1 ∷ 0 ∷ 0 ∷ 0 ∷ 0 ∷ 9 ∷ 9 ∷ 9 ∷ 9 ∷ 9 ∷ 9 ∷ 9 ∷ [])
+    ∷ (0 ∷ 1 ∷ 135 ∷ 71 ∷ 1 ∷ 9 ∷ 9 ∷ [])
+    ∷ (0 ∷ 1 ∷ 135 ∷ 71 ∷ 1 ∷ 9 ∷ 9 ∷ [])
+    ∷ (13 ∷ 2 ∷ 134 ∷ 70 ∷ 70 ∷ 9 ∷ 9 ∷ 9 ∷ [])
+    ∷ (0 ∷ 2 ∷ 134 ∷ 70 ∷ 70 ∷ 1 ∷ 2 ∷ 9 ∷ [])
     ∷ []
 
 -- This byte at a line's ends: last, alone, and before `-1-2`, which is cut for `-`.

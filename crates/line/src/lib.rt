@@ -1,5 +1,5 @@
-// The line's check, added by the port: number 3 and its place. The Rust is handed lines that its own tokenizer has
-// cut out of a file, so it has no such check.
+// The line's check, added by the port: number 3 and its place. The Rust's matcher takes any text and has no such check; what
+// makes its lines is not in the published text.
 ghost use mathlib.Core.Path.{_≡_};
 ghost use Rattle.line.specs.Line.{isAllowed, lineSays, lineVerdict};
 

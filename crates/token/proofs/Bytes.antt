@@ -77,7 +77,7 @@ kind-bracket b = go (isWhitespace b) (eqb b 40) (eqb b 41) (eqb b 123) (eqb b 12
     go false false false false true e f g i h = eqb-true b 125 i
     go false false false false false e f g i h = absurd (omega arith)
 
--- a byte of another kind, whitespace among them, is none of the four
+-- a byte of kind 0 or 1, which is whitespace, is no bracket
 pub no-bracket : (b : ℕ) → classKind b < 2 → (eqb b 40 ≡ false) × (eqb b 41 ≡ false) × (eqb b 123 ≡ false) × (eqb b 125 ≡ false)
 unfolding classKind isWhitespace
 no-bracket b h = (other 40 (omega arith), other 41 (omega arith), other 123 (omega arith), other 125 (omega arith))

@@ -1,6 +1,7 @@
 //! Document 01's bench cases. Cases 3, 4 and 5 are cuts, and show by the sheet: it has an end under
 //! the cut and none under the line's end, or an end under a place that is no cut. Case 6 shows by
-//! the rules that lookup leaves out. With a carriage return for a space, each answers the same.
+//! the rules that lookup leaves out. Cases 1, 6, 8 and 9 answer the same with a carriage return for
+//! a space.
 
 use crate::lent::{selected, Call};
 use crate::tables::{sheet, table, ALL, MOV};
