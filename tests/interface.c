@@ -482,7 +482,7 @@ static void steps(void) {
 }
 
 /* Chapter 3.4. The rule is an expression, the character, and what follows it in the line; the sheet has an end under
- * that one place. So the line matches exactly if that is the cut. */
+ * that one place. So the line matches exactly if that is the cut. A letter is wanted in lower case. */
 static void cuts_at(const char *line, char wanted, int place) {
     size_t n = strlen(line), start = strspn(line, "\t\r ");
     for (size_t p = 0; p < n; p++) {

@@ -173,6 +173,18 @@ fn on_t() -> Call {
     call(t, "mov p", &[[0, 3, 5, 5]])
 }
 
+/// Bench case 6: rules that lookup tells apart by the line's prefix.
+fn by_prefix() -> Call {
+    let six: &[&[&str]] = &[&["movq", "movp", "mov {}", "ovp"]];
+    call(six, "  MoV p", &[[0, 5, 7, 7]])
+}
+
+/// A rule whose three ends lead to one useful place, past a space at 2.
+fn one_useful_place() -> Call {
+    let same = [[0, 0, 5, 2], [0, 0, 3, 3], [1, 0, 5, 2]];
+    call(&[&["{}+a"]], "aa +a", &same)
+}
+
 /// Document 01's bench cases 1 to 10. Cases 3, 4 and 5 are cuts, and show by the sheet: it has an end under the cut and none
 /// under the line's end, or an end under a place that is no cut. Case 6 shows by the rules that lookup leaves out.
 fn bench(sample: &mut Sample) {
@@ -193,8 +205,7 @@ fn bench(sample: &mut Sample) {
         let name = format!("bench 3 to 5, {rule} on {line}");
         sample.both(&name, &call(&[&[rule]], line, &[[0, 0, end, end]]));
     }
-    let six: &[&[&str]] = &[&["movq", "movp", "mov {}", "ovp"]];
-    sample.both("bench 6", &call(six, "  MoV p", &[[0, 5, 7, 7]]));
+    sample.both("bench 6", &by_prefix());
     sample.both("bench 7", &call(&[&["nop "]], "nop", &[]));
     sample.both("bench 8, a white x", &call(&[&["a x"]], "ax", &[]));
     sample.both("bench 8, a white x", &call(&[&["a x"]], "a x", &[]));
@@ -219,8 +230,7 @@ fn steps(sample: &mut Sample) {
         [0, 6, 7, 7],
     ];
     sample.both("three ends in order", &call(&[&["{}+{}"]], "a+b+c+d", &three));
-    let same = [[0, 0, 5, 2], [0, 0, 3, 3], [1, 0, 5, 2]];
-    sample.both("ends with one useful place", &call(&[&["{}+a"]], "aa +a", &same));
+    sample.both("ends with one useful place", &one_useful_place());
     let inner: &[&[&str]] = &[&["{1}+b"], &["a", "a", "A"]];
     sample.both("an inner match under limit and cut", &call(inner, "a+b", &[]));
     let deep: &[&[&str]] = &[&["{1}+b"], &["{2}"], &["{}"]];
@@ -292,20 +302,18 @@ fn steps(sample: &mut Sample) {
 
 /// Byte 13 wherever whitespace is asked for, at every place of a line, and last, where it is refused as any whitespace is.
 fn carriage_returns(sample: &mut Sample) {
-    let t: &[&[&str]] = &[&["mov {}", "mov {1}"], &["p", "q"]];
-    sample.both("13 for the space of bench 1", &call(t, "mov\rp", &[[0, 3, 5, 5]]));
-    let six: &[&[&str]] = &[&["movq", "movp", "mov {}", "ovp"]];
-    sample.both("13 in a line's prefix", &call(six, "\r MoV\rp", &[[0, 5, 7, 7]]));
+    sample.but("13 for the space of bench 1", &on_t(), |c| c.line[3] = 13);
+    sample.but("13 in a line's prefix", &by_prefix(), |c| {
+        (c.line[0], c.line[5]) = (13, 13)
+    });
     sample.both("13 at a whitespace part", &call(&[&["a x"]], "a\rx", &[]));
     sample.both("13 before an exact part", &call(&[&["ax"]], "a\rx", &[]));
     let cuts = [[0, 0, 3, 3], [0, 0, 1, 1]];
     sample.both("no cut with 13 alone before it", &call(&[&["{}-2"]], "\r-1-2", &cuts));
     sample.both("a cut after 13", &call(&[&["{}+b"]], "a\r+b", &[[0, 0, 2, 1]]));
-    let same = [[0, 0, 5, 2], [0, 0, 3, 3], [1, 0, 5, 2]];
-    sample.both(
-        "ends with one useful place, past 13",
-        &call(&[&["{}+a"]], "aa\r+a", &same),
-    );
+    sample.but("ends with one useful place, past 13", &one_useful_place(), |c| {
+        c.line[2] = 13
+    });
     sample.both(
         "an argument's start past 13",
         &call(&[&["a{}", "a{1}"], &["b"]], "a\rb", &[[0, 1, 3, 3]]),
