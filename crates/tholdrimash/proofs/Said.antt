@@ -6,6 +6,7 @@ use Rattle.plain.specs.Told.{Told}
 use Rattle.readings.specs.Scene.{Scene}
 use Rattle.readings.specs.Demand.{Demand3}
 use Rattle.listing.specs.Calls.{ReadCall}
+use Rattle.expressions.specs.Call.{FillCall, FilledFits}
 use Rattle.tholdrimash.specs.declared.TholdrimashAnswer.{TholdrimashAnswer}
 use Rattle.runs.specs.Program.{ProgramTold}
 use Rattle.runs.specs.Demand.{ReadProgram}
@@ -31,6 +32,13 @@ tells-of e (h, k) = (ap (λ (x : Told). x .number) e ∙ h, ap (λ (x : Told). x
 -- what reading may tell, the struct's fields may tell
 pub call-of : (text room : List ℕ) {r q : Told} → r ≡ q → ReadCall text room q → ReadCall text room r
 call-of text room e c = subst (ReadCall text room) (sym e) c
+
+-- and what filling may tell
+pub fills-of : (line sheet : List ℕ) {r q : Told} → r ≡ q → FillCall line sheet q → FillCall line sheet r
+fills-of line sheet e c = subst (FillCall line sheet) (sym e) c
+
+pub fits-of : (line : List ℕ) {r q : Told} → r ≡ q → FilledFits line q → FilledFits line r
+fits-of line e f = subst (FilledFits line) (sym e) f
 
 -- of a program call's answers
 module _ {answer a : ProgramAnswer} {r s : TholdrimashAnswer} where

@@ -1,12 +1,14 @@
 -- How tight the promises are: any two answers that a contract allows on the same arguments are equal, in the C struct's fields
 -- and in what was lent, as it stands at exit. Each law is stated over the contract itself, `Post`, whose first clause,
--- `answers`, is an equation of all of them; reading's allows one thing to be told, as `listing` proves.
+-- `answers`, is an equation of all of them; reading's and filling's allow one thing to be told, as `listing` and `expressions`
+-- prove.
 use mathlib.Core.Path.{_≡_}
 use mathlib.Core.List.{List}
 use Prim.Native.Nat.{ℕ}
 use denote.Ref.{now}
 use Rattle.plain.proofs.Answers.{one-answer}
 use Rattle.listing.proofs.Told.{read-call-one}
+use Rattle.expressions.proofs.Called.{fill-call-one}
 use Rattle.tholdrimash.specs.declared.TholdrimashAnswer.{TholdrimashAnswer}
 use Rattle.tholdrimash.specs.declared.TholdrimashSelection.{TholdrimashSelection}
 use Rattle.tholdrimash.specs.Interface.{told, toldWhole, chose}
@@ -15,6 +17,7 @@ use Rattle.tholdrimash.proofs.tholdrimash_lookup.Reads as lookup
 use Rattle.tholdrimash.proofs.tholdrimash_select.Reads as select
 use Rattle.tholdrimash.proofs.tholdrimash_read_table.Reads as read-table
 use Rattle.tholdrimash.proofs.tholdrimash_write_table.Reads as write-table
+use Rattle.tholdrimash.proofs.tholdrimash_fill_sheet.Reads as fill-sheet
 use Rattle.tholdrimash.proofs.tholdrimash_match_program.Reads as match-program
 use Rattle.tholdrimash.proofs.tholdrimash_lookup_program.Reads as lookup-program
 
@@ -42,6 +45,9 @@ read-table-tight κs a r s x y p q = same-told r s _ _ (read-call-one _ _ _ _ p 
 
 pub write-table-tight : (κs a : _) (r s : TholdrimashAnswer) (x y : _) → write-table.Post κs a r x → write-table.Post κs a s y → (r ≡ s) × (now (x .1 .0) ≡ now (y .1 .0))
 write-table-tight κs a r s x y p q = same-told r s _ _ (one-answer p q)
+
+pub fill-sheet-tight : (κs a : _) (r s : TholdrimashAnswer) (x y : _) → fill-sheet.Post κs a r x → fill-sheet.Post κs a s y → (r ≡ s) × (now (x .1 .0) ≡ now (y .1 .0))
+fill-sheet-tight κs a r s x y p q = same-told r s _ _ (fill-call-one _ _ _ _ (p .0) (q .0))
 
 pub match-program-tight : (κs a : _) (r s : TholdrimashAnswer) (x y : _) → match-program.Post κs a r x → match-program.Post κs a s y
     → (r ≡ s) × (now (x .1 .1 .1 .1 .1 .0) ≡ now (y .1 .1 .1 .1 .1 .0)) × (now (x .1 .1 .1 .1 .1 .1 .0) ≡ now (y .1 .1 .1 .1 .1 .1 .0))

@@ -1,6 +1,7 @@
 // The C interface: `include/tholdrimash.h` declares these functions, and documents every number and field. Each is one call
-// of `matcher`, `resolver`, `listing` or `program`, with the answer's number and fields as a C struct; a slice is a pointer
+// of `matcher`, `resolver`, `listing`, `expressions` or `program`, with the answer's number and fields as a C struct; a slice is a pointer
 // and a length.
+use expressions::Filling;
 use listing::reading::ReadAnswer;
 use listing::writing::WriteAnswer;
 use program::ProgramAnswer;
@@ -24,8 +25,9 @@ ghost use Rattle.program.specs.Says.{programSays};
 ghost use Rattle.tholdrimash.specs.Interface.{told, toldWhole, chose, ChosenOnLast};
 ghost use Rattle.resolver.specs.Selection.{selected, selectionSays};
 ghost use Rattle.listing.specs.Calls.{ReadCall, writeCall, readSays, writeSays};
+ghost use Rattle.expressions.specs.Call.{FillCall, FilledFits, fillSays};
 
-// What matching, reading and writing tables, and programs return; unstated fields are 0.
+// What matching, reading and writing tables, filling sheets, and programs return; unstated fields are 0.
 #[repr(C)]
 pub struct TholdrimashAnswer {
     pub number: u32,
@@ -177,6 +179,26 @@ pub extern "C" fn tholdrimash_write_table(table: &[u16], text: &mut [u8]) -> Tho
     ensures answers { λ r. ⌜ told r (now (text .exit)) ≡ writeCall (now (table .entry)) (now (text .entry)) ⌝ }
 {
     write_fields(listing::writing::write_table(table, text))
+}
+
+// Each case of filling as its number and fields.
+fn fill_fields(answer: Filling) -> TholdrimashAnswer
+    ensures { λ r. ⌜ ((b : List ℕ) → told r b ≡ fillSays answer b) ⌝ }
+{
+    match answer {
+        Filling::Filled { words } => answer_of(0, 0, words, 0),
+        Filling::BadLine { place } => answer_of(3, 0, 0, place),
+        Filling::BadRoom => answer_of(18, 0, 0, 0),
+    }
+}
+
+// The sheet of a line.
+#[no_mangle]
+pub extern "C" fn tholdrimash_fill_sheet(line: &[u8], sheet: &mut [u8]) -> TholdrimashAnswer
+    ensures answers { λ r. ⌜ FillCall (now (line .entry)) (now (sheet .entry)) (told r (now (sheet .exit))) ⌝ }
+    ensures fits { λ r. ⌜ FilledFits (now (line .entry)) (told r (now (sheet .exit))) ⌝ }
+{
+    fill_fields(expressions::fill_sheet(line, sheet))
 }
 
 // Each case of a program call as its number and fields.

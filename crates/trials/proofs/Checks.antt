@@ -1,19 +1,16 @@
 -- The checks of a line: what each finds is what the whole call's definition tests after the table, in its order.
-use mathlib.Core.Path.{_≡_, refl, sym, ap, subst, _∙_}
+use mathlib.Core.Path.{_≡_, refl, sym, subst, _∙_}
 use mathlib.Core.Logic.{⊎-elim}
-use mathlib.Core.Bool.{Bool, true, false}
-use mathlib.Core.Option.{Option, none, some, Option·none-ne-some, Option·some-inj}
-use mathlib.Core.List.{List, [], _∷_}
-use Prim.Native.Nat.{ℕ, suc, _+_, _-_, _≤_, _<_}
+use mathlib.Core.Bool.{true, false}
+use mathlib.Core.Option.{Option, none, some}
+use mathlib.Core.List.{List}
+use Prim.Native.Nat.{ℕ, _≤_, _<_}
 use native.Mathlib.Omega.{arith}
-use lib.Dec.{leb, ltb}
+use lib.Dec.{leb}
 use lib.ListN.{length}
-use borrow.Author.Tests.{le-leb, lt-leb, ltb-false}
-use Rattle.plain.specs.Choice.{select}
+use borrow.Author.Tests.{le-leb, lt-leb}
 use Rattle.plain.proofs.Tests.{tested, and-both, and-false-left, and-false-right}
-use Rattle.line.specs.Line.{isAllowed, firstBad, endsOpen, orElse, faultAt, numbered, lineSays, lineVerdict}
-use Rattle.line.specs.declared.LineCheck.{LineCheck}
-use Rattle.line.specs.declared.LineCheck.the-variants as LineCheck
+use Rattle.line.specs.Line.{faultAt}
 use Rattle.extents.specs.Sheet.{sheetFits}
 use Rattle.readings.specs.Call.{budgetFits}
 use Rattle.readings.proofs.Calls.{bad-line, bad-sheet, bad-budget}
@@ -23,48 +20,6 @@ use Rattle.trials.specs.declared.Answer.the-variants.{BadLine, BadSheet,
 use Rattle.trials.specs.declared.Checked.{Checked}
 use Rattle.trials.specs.declared.Checked.the-variants.{Good, Bad}
 use Rattle.trials.specs.Told.{says, listedCall, LineAccepted, checkedOf}
-
--- ---- the line's fault
-
-first-within : (bs : List ℕ) (i p : ℕ) → firstBad bs i ≡ some p → p < i + length bs
-unfolding firstBad
-first-within [] i p e = absurd (Option·none-ne-some p e)
-first-within (b ∷ bs) i p e = go (isAllowed b) e (λ k. first-within bs (suc i) p k)
-  where
-    go : (a : Bool) → select a (firstBad bs (suc i)) (some i) ≡ some p → (firstBad bs (suc i) ≡ some p → p < suc i + length bs) → p < i + suc (length bs)
-    go true q k = omega (arith, k q)
-    go false q k = omega (arith, Option·some-inj .0 q)
-
-pub fault-small : (line : List ℕ) (p : ℕ) → faultAt line ≡ some p → p ≤ 120
-unfolding faultAt
-fault-small line p e = long (ltb 120 (length line)) refl e
-  where
-    last : (b : Bool) → length line ≤ 120 → select b (some (length line - 1)) none ≡ some p → p ≤ 120
-    last true h q = omega (arith, Option·some-inj .0 q)
-    last false h q = absurd (Option·none-ne-some p q)
-
-    byte : (o : Option ℕ) → firstBad line 0 ≡ o → length line ≤ 120 → orElse o (select (endsOpen line) (some (length line - 1)) none) ≡ some p → p ≤ 120
-    byte none i h q = last (endsOpen line) h q
-    byte (some j) i h q = omega (arith, first-within line 0 j i, Option·some-inj .0 q)
-
-    long : (b : Bool) → ltb 120 (length line) ≡ b → select b (some 120) (orElse (firstBad line 0) (select (endsOpen line) (some (length line - 1)) none)) ≡ some p → p ≤ 120
-    long true i q = omega (arith, Option·some-inj .0 q)
-    long false i q = byte (firstBad line 0) refl (ltb-false 120 (length line) i) q
-
-module _ (line : List ℕ) (found : LineCheck) (says : lineSays found ≡ lineVerdict line) where
-  pub line-good : found ≡ LineCheck.Good → faultAt line ≡ none
-  line-good e = go (faultAt line) (sym (ap lineSays e) ∙ says)
-    where
-      go : (o : Option ℕ) → _≡_ {A = ℕ × ℕ} (0, 0) (numbered o) → o ≡ none
-      go none q = refl
-      go (some p) q = let z : _≡_ {A = ℕ} 0 3 = ap (λ (x : ℕ × ℕ). x .0) q in absurd (omega arith)
-
-  pub line-bad : {p : ℕ} → found ≡ LineCheck.Bad p → faultAt line ≡ some p
-  line-bad {p} e = go (faultAt line) (sym (ap lineSays e) ∙ says)
-    where
-      go : (o : Option ℕ) → _≡_ {A = ℕ × ℕ} (3, p) (numbered o) → o ≡ some p
-      go none q = let z : _≡_ {A = ℕ} 3 0 = ap (λ (x : ℕ × ℕ). x .0) q in absurd (omega arith)
-      go (some r) q = ap some (sym (ap (λ (x : ℕ × ℕ). x .1) q))
 
 -- ---- the checks, in their order
 

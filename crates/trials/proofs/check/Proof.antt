@@ -1,7 +1,8 @@
 -- `trials::check` meets its contract.
 use native.Mathlib.Omega.{arith}
 use Rattle.plain.proofs.Calls.{refused, passed}
-use Rattle.trials.proofs.Checks.{fault-small, line-good, line-bad, bytes-bad, extents-bad, budget-none, budget-great, all-good}
+use Rattle.line.proofs.Faults.{fault-small, line-good, line-bad}
+use Rattle.trials.proofs.Checks.{bytes-bad, extents-bad, budget-none, budget-great, all-good}
 use borrow.Author.Needs.{needs}
 use Rattle.trials.proofs.check.Statement.{statement}
 use Rattle.trials.proofs.check.Tie as tie

@@ -1,0 +1,16 @@
+pub mod Bytes
+pub mod Tokens
+pub mod Spans
+pub mod Local
+pub mod Runs
+pub mod Starts
+pub mod Greatest
+pub mod Rows
+pub mod Laying
+pub mod Told
+pub mod Entries
+pub mod Filled
+pub mod Called
+pub mod Tight
+pub mod Agree
+pub mod Examples

@@ -1,0 +1,91 @@
+-- Runs of bytes of a kind: where they end, and that the scan finds it.
+use mathlib.Core.Path.{_≡_, refl, sym, ap, _∙_, subst}
+use mathlib.Core.Bool.{Bool, true, false, not}
+use mathlib.Core.List.{List}
+use Prim.Native.Nat.{ℕ, zero, suc, _+_, _-_, _≤_, _<_}
+use native.Mathlib.Decide.{decLt, ℕ-discrete}
+use native.Mathlib.Omega.{arith}
+use native.Mathlib.Numerals.{add-one}
+use lib.ListN.{length, List·getD-eq-default}
+use Rattle.plain.specs.Choice.{select}
+use Rattle.plain.proofs.Calls.{refused, passed}
+use Rattle.plain.proofs.Tests.{not-both}
+use Rattle.syntax.specs.Walker.{byteAt}
+use Rattle.expressions.specs.Ends.{runTo, runEnd}
+use Rattle.expressions.proofs.Bytes.{Kind, past}
+use Rattle.expressions.proofs.Tokens.{inside}
+
+-- the bytes from c to before e are of a kind
+abbrev pub Run : (ℕ → Bool) → List ℕ → ℕ → ℕ → Type 0
+Run kind line c e = (i : ℕ) → c ≤ i → i < e → kind (byteAt line i) ≡ true
+
+-- and the byte at e is none
+pub record RunEnds (kind : ℕ → Bool) (line : List ℕ) (c e : ℕ) : Type 0 where
+  pub from : c ≤ e
+  pub run : Run kind line c e
+  pub ends : kind (byteAt line e) ≡ false
+
+module _ {kind : ℕ → Bool} (k : Kind kind) (line : List ℕ) where
+  -- of so many bytes to go
+  run-from : (d c : ℕ) → length line ≤ c + d → RunEnds kind line c (runTo kind line d c)
+  unfolding runTo
+  run-from zero c h = record {
+    from = omega arith;
+    run = λ i low high. absurd (omega arith);
+    ends = ap kind (List·getD-eq-default line 0 (omega arith)) ∙ past k;
+  }
+  run-from (suc d) c h = go (kind (byteAt line c)) refl (run-from d (suc c) (omega arith))
+    where
+      go : (t : Bool) → kind (byteAt line c) ≡ t → RunEnds kind line (suc c) (runTo kind line d (suc c)) → RunEnds kind line c (select t (runTo kind line d (suc c)) c)
+      go true e r = record {
+        from = omega (arith, r .from);
+        run = λ i low high. elim (ℕ-discrete i c) [ yes q ↦ ap (λ (n : ℕ). kind (byteAt line n)) q ∙ e | no n ↦ r .run i (omega (arith, n)) high ];
+        ends = r .ends;
+      }
+      go false e r = record { from = omega arith; run = λ i low high. absurd (omega arith); ends = e }
+
+  pub run-is : (c : ℕ) → RunEnds kind line c (runEnd kind line c)
+  unfolding runEnd
+  run-is c = run-from (length line - c) c (omega arith)
+
+  -- a run ends at one place
+  pub run-one : {c d e : ℕ} → RunEnds kind line c d → RunEnds kind line c e → d ≡ e
+  run-one {c} {d} {e} a b =
+      elim (decLt d e) [
+        | yes h ↦ absurd (not-both (b .run d (a .from) h) (a .ends))
+        | no h ↦ elim (decLt e d) [ yes g ↦ absurd (not-both (a .run e (b .from) g) (b .ends)) | no g ↦ omega (arith, h, g) ]
+      ]
+
+  -- which lies in the line
+  pub run-inside : (c : ℕ) → c ≤ length line → runEnd kind line c ≤ length line
+  run-inside c h =
+      let r = run-is c in
+      let from = r .from in
+      elim (decLt c (runEnd kind line c)) [
+        | yes l ↦ omega (arith, inside k line (runEnd kind line c - 1) (r .run (runEnd kind line c - 1) (omega arith) (omega arith)))
+        | no d ↦ omega (arith, d)
+      ]
+
+  -- a byte of the kind makes it nonempty
+  pub run-more : (c : ℕ) → kind (byteAt line c) ≡ true → c < runEnd kind line c
+  run-more c h =
+      let r = run-is c in
+      elim (ℕ-discrete c (runEnd kind line c)) [
+        | yes q ↦ absurd (not-both (ap (λ (n : ℕ). kind (byteAt line n)) (sym q) ∙ h) (r .ends))
+        | no d ↦ omega (arith, d, r .from)
+      ]
+
+  -- ---- the scan of the code, where it stands: the bytes from c to before i are of the kind
+  module _ (c : ℕ) where
+    pub run-none : Run kind line c c
+    run-none = λ i low high. absurd (omega arith)
+
+    pub run-step : {r : Bool} (i : ℕ) → Run kind line c i → r ≡ kind (byteAt line i) → not r ≡ false → Run kind line c (i + 1)
+    run-step i run q p = λ j low high. elim (ℕ-discrete j i) [ yes e ↦ ap (λ (n : ℕ). kind (byteAt line n)) e ∙ passed q p | no d ↦ run j low (omega (arith, d)) ]
+
+    pub run-stops : {r : Bool} (i : ℕ) → c ≤ i → Run kind line c i → r ≡ kind (byteAt line i) → not r ≡ true → i ≡ runEnd kind line c
+    run-stops i h run q p = run-one (record { from = h; run = run; ends = refused q p }) (run-is c)
+
+    pub run-over : (i : ℕ) → c ≤ i → Run kind line c i → length line ≤ i → i ≡ runEnd kind line c
+    run-over i h run l =
+        run-one (record { from = h; run = run; ends = ap kind (List·getD-eq-default line 0 l) ∙ past k }) (run-is c)

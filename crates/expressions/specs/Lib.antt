@@ -1,0 +1,5 @@
+pub mod Grammar
+pub mod Ends
+pub mod Sheet
+pub mod Call
+pub mod Filling

@@ -1,0 +1,336 @@
+// The extent sheet of a line, filled from the line itself: order 5's grammar of delta expressions. It is added by the port:
+// the Rust's expression parsers are not in its published text. Starts go from the line's end to its beginning, and each is
+// judged by its byte and by what is known of later starts, so nesting costs no recursion. It refuses a bad line (3), then a
+// sheet of the wrong length (18), and leaves the sheet unchanged in both.
+use line::LineCheck;
+use syntax::walker::Walker;
+ghost use mathlib.Core.Path.{_≡_};
+ghost use mathlib.Core.Bool.{true};
+ghost use Prim.Native.Nat.{ℕ, _+_, _≤_, _<_};
+ghost use lib.Dec.{eqb};
+ghost use lib.ListN.{length, getD};
+ghost use Rattle.plain.specs.Choice.{select};
+ghost use Rattle.syntax.specs.Walker.{byteAt};
+ghost use Rattle.extents.specs.Sheet.{sized, entryEnd};
+ghost use Rattle.extents.specs.declared.Half.the-variants as Half;
+ghost use Rattle.expressions.specs.Grammar.{isDigit, isLetter, isOperator};
+ghost use Rattle.expressions.specs.Ends.{tokenAt, runEnd, upTo, termAt, closedAfter, changesNone};
+ghost use Rattle.expressions.specs.Sheet.{byteOf};
+ghost use Rattle.expressions.specs.Call.{FillCall, FilledFits, fillSays};
+ghost use Rattle.expressions.specs.Filling.{wordKind, Lays, InLine, TermEnds, FreeAsked, FreeLaid, RowLaid, Made, termSays};
+
+// An entry's byte that says: no end here.
+const NONE: u8 = 255;
+
+// How many halves a sheet has.
+const HALVES: usize = 2;
+
+// How many starts the longest line has.
+const STARTS: usize = 121;
+
+// What filling a sheet comes to.
+pub enum Filling {
+    // 0: how many bytes the sheet has.
+    Filled { words: u32 },
+    // 3
+    BadLine { place: u32 },
+    // 18: the sheet's length is wrong.
+    BadRoom,
+}
+
+// A term's ends: low + 1 to top.
+enum TermFound {
+    Ends { low: usize, top: usize },
+    Nothing,
+}
+
+// ---- bytes and tokens
+
+fn is_digit(b: u8) -> bool
+    ensures { λ r. ⌜ r ≡ isDigit b ⌝ }
+{
+    (48 <= b) & (b <= 57)
+}
+
+fn is_letter(b: u8) -> bool
+    ensures { λ r. ⌜ r ≡ isLetter b ⌝ }
+{
+    ((65 <= b) & (b <= 90)) | ((97 <= b) & (b <= 122))
+}
+
+fn is_operator(b: u8) -> bool
+    ensures { λ r. ⌜ r ≡ isOperator b ⌝ }
+{
+    (b == 43) | ((b == 45) | ((b == 42) | ((b == 47) | ((b == 38) | (b == 124)))))
+}
+
+// Whether a start with this byte has the ends of the start after it.
+fn changes_none(b: u8) -> bool
+    ensures { λ r. ⌜ r ≡ changesNone b ⌝ }
+{
+    token::is_whitespace(b) | (b == 45)
+}
+
+// Where a token after c begins.
+fn token_at(line: &[u8], c: usize) -> usize
+    requires { ⌜ c ≤ length (now line) ⌝ }
+    ensures { λ r. ⌜ (r ≡ tokenAt (now (line .entry)) c) × (r ≤ length (now (line .entry))) ⌝ }
+{
+    let walker = Walker {
+        cursor: c,
+        limit: line.len(),
+    };
+    walker.next_useful_index(line)
+}
+
+// The byte at a place, or 0 past the line.
+fn byte_at(line: &[u8], i: usize) -> u8
+    ensures { λ r. ⌜ r ≡ byteAt (now (line .entry)) i ⌝ }
+{
+    if line.len() <= i {
+        return 0;
+    }
+    line[i]
+}
+
+// Whether a name, or else a number, goes on with this byte.
+fn goes_on(name: bool, b: u8) -> bool
+    ensures { λ r. ⌜ r ≡ wordKind name b ⌝ }
+{
+    if name {
+        return is_letter(b) | is_digit(b);
+    }
+    is_digit(b)
+}
+
+// Past the bytes from c on with which a name, or else a number, goes on.
+fn run_end(line: &[u8], name: bool, c: usize) -> usize
+    requires { ⌜ c ≤ length (now line) ⌝ }
+    ensures { λ r. ⌜ r ≡ runEnd (wordKind name) (now (line .entry)) c ⌝ }
+{
+    let mut i = c;
+    while i < line.len() {
+        if !goes_on(name, line[i]) {
+            return i;
+        }
+        i += 1;
+    }
+    i
+}
+
+// ---- runs of entries
+
+// Lays one byte for the limits from `from` to before `to`.
+fn lay(sheet: &mut [u8], at: usize, from: usize, to: usize, byte: u8)
+    requires { ⌜ from ≤ to ⌝ }
+    requires { ⌜ at + to ≤ length (now sheet) ⌝ }
+    ensures { λ _. ⌜ Lays (now (sheet .entry)) (now (sheet .exit)) at from to (λ (l : ℕ). byte) ⌝ }
+{
+    let mut l = from;
+    while l < to {
+        sheet[at + l] = byte;
+        l += 1;
+    }
+}
+
+// Lays each limit itself.
+fn lay_limits(sheet: &mut [u8], at: usize, from: usize, to: usize)
+    requires { ⌜ from ≤ to ⌝ }
+    requires { ⌜ at + to ≤ length (now sheet) ⌝ }
+    requires { ⌜ to ≤ 121 ⌝ }
+    ensures { λ _. ⌜ Lays (now (sheet .entry)) (now (sheet .exit)) at from to (λ (l : ℕ). l) ⌝ }
+{
+    let mut l = from;
+    while l < to {
+        let byte = l as u8;
+        sheet[at + l] = byte;
+        l += 1;
+    }
+}
+
+// An entry, or another byte where it holds nothing.
+fn or_byte(there: u8, byte: u8) -> u8
+    ensures { λ r. ⌜ r ≡ select (eqb there 255) byte there ⌝ }
+{
+    if there == NONE { byte } else { there }
+}
+
+// Lays what a later row holds, and a byte where that holds nothing.
+fn lay_from(sheet: &mut [u8], at: usize, from: usize, to: usize, later: usize, byte: u8)
+    requires { ⌜ from ≤ to ⌝ }
+    requires { ⌜ at + to ≤ later ⌝ }
+    requires { ⌜ later + to ≤ length (now sheet) ⌝ }
+    ensures { λ _. ⌜ Lays (now (sheet .entry)) (now (sheet .exit)) at from to (λ (l : ℕ). select (eqb (getD (now (sheet .entry)) (later + l) 0) 255) byte (getD (now (sheet .entry)) (later + l) 0)) ⌝ }
+{
+    let mut l = from;
+    while l < to {
+        let there = sheet[later + l];
+        sheet[at + l] = or_byte(there, byte);
+        l += 1;
+    }
+}
+
+// Lays the ends low + 1 to top: nothing up to low, then each limit itself.
+fn lay_ends(sheet: &mut [u8], at: usize, low: usize, top: usize)
+    requires { ⌜ at + (top + 1) ≤ length (now sheet) ⌝ }
+    requires { ⌜ low < top ⌝ }
+    requires { ⌜ top ≤ 120 ⌝ }
+    ensures { λ _. ⌜ Lays (now (sheet .entry)) (now (sheet .exit)) at 0 (top + 1) (λ (l : ℕ). byteOf (upTo low top l)) ⌝ }
+{
+    lay(sheet, at, 0, low + 1, NONE);
+    lay_limits(sheet, at, low + 1, top + 1);
+}
+
+// ---- a start
+
+// The term of an opener, if an expression after it is whole at `inner`.
+fn closed_after(line: &[u8], inner: u8) -> TermFound
+    requires { ⌜ InLine (now line) (entryEnd inner) ⌝ }
+    ensures { λ r. ⌜ termSays r ≡ closedAfter (now (line .entry)) (entryEnd inner) ⌝ }
+{
+    if inner == NONE {
+        return TermFound::Nothing;
+    }
+    let sign = token_at(line, inner as usize);
+    if byte_at(line, sign) != 41 {
+        return TermFound::Nothing;
+    }
+    TermFound::Ends {
+        low: sign,
+        top: sign + 1,
+    }
+}
+
+// The term at c, where neither whitespace nor a minus stands.
+fn term_at(line: &[u8], inner: u8, c: usize) -> TermFound
+    requires { ⌜ c < length (now line) ⌝ }
+    requires { ⌜ InLine (now line) (entryEnd inner) ⌝ }
+    ensures { λ r. ⌜ termSays r ≡ termAt (now (line .entry)) (entryEnd inner) c ⌝ }
+{
+    let b = line[c];
+    if is_digit(b) {
+        return TermFound::Ends {
+            low: c,
+            top: run_end(line, false, c),
+        };
+    }
+    if is_letter(b) {
+        return TermFound::Ends {
+            low: c,
+            top: run_end(line, true, c),
+        };
+    }
+    if b == 40 {
+        return closed_after(line, inner);
+    }
+    TermFound::Nothing
+}
+
+// Lays the free row of a term's start, and returns where the expression is whole.
+fn lay_term(line: &[u8], sheet: &mut [u8], wholes: &[u8], c: usize, low: usize, top: usize) -> u8
+    requires { ⌜ FreeAsked (now line) (now sheet) (now wholes) c ⌝ }
+    requires { ⌜ TermEnds (now line) c low top ⌝ }
+    ensures { λ r. ⌜ FreeLaid (now (line .entry)) (now (sheet .entry)) (now (sheet .exit)) c r ⌝ }
+{
+    let side = line.len() + 1;
+    let row = c * side;
+    lay_ends(sheet, row, low, top);
+    let sign = token_at(line, top);
+    let next = sign + 1;
+    let end = top as u8;
+    if is_operator(byte_at(line, sign)) {
+        lay_from(sheet, row, top + 1, side, next * side, end);
+        return wholes[next];
+    }
+    lay(sheet, row, top + 1, side, end);
+    end
+}
+
+// Lays the free row of a start, and returns where the expression is whole.
+fn lay_free(line: &[u8], sheet: &mut [u8], wholes: &[u8], c: usize) -> u8
+    requires { ⌜ FreeAsked (now line) (now sheet) (now wholes) c ⌝ }
+    ensures { λ r. ⌜ FreeLaid (now (line .entry)) (now (sheet .entry)) (now (sheet .exit)) c r ⌝ }
+{
+    let side = line.len() + 1;
+    let row = c * side;
+    let inner = wholes[c + 1];
+    if changes_none(line[c]) {
+        lay_from(sheet, row, 0, side, row + side, NONE);
+        return inner;
+    }
+    match term_at(line, inner, c) {
+        TermFound::Ends { low, top } => lay_term(line, sheet, wholes, c, low, top),
+        TermFound::Nothing => {
+            lay(sheet, row, 0, side, NONE);
+            NONE
+        }
+    }
+}
+
+// Lays the greedy row of a start.
+fn lay_greedy(line: &[u8], sheet: &mut [u8], c: usize)
+    requires { ⌜ Made (now line) (now sheet) (c + 1) ⌝ }
+    requires { ⌜ c < length (now line) ⌝ }
+    ensures { λ _. ⌜ RowLaid (now (line .entry)) (now (sheet .entry)) (now (sheet .exit)) Half.Greedy c ⌝ }
+{
+    let side = line.len() + 1;
+    let row = side * side + c * side;
+    let b = line[c];
+    let white = token::is_whitespace(b);
+    if white {
+        lay_from(sheet, row, 0, side, row + side, NONE);
+        return;
+    }
+    let digit = is_digit(b);
+    if !digit {
+        lay(sheet, row, 0, side, NONE);
+        return;
+    }
+    let top = run_end(line, false, c);
+    lay_ends(sheet, row, c, top);
+    lay(sheet, row, top + 1, side, top as u8);
+}
+
+// Fills the sheet of a line of at most 120 bytes.
+fn fill(line: &[u8], sheet: &mut [u8])
+    requires { ⌜ length (now line) ≤ 120 ⌝ }
+    requires { ⌜ sized (now sheet) (length (now line)) ≡ true ⌝ }
+    ensures { λ _. ⌜ Made (now (line .entry)) (now (sheet .exit)) 0 ⌝ }
+{
+    let side = line.len() + 1;
+    let mut wholes = [NONE; STARTS];
+    let mut c = line.len();
+    lay(sheet, c * side, 0, side, NONE);
+    lay(sheet, side * side + c * side, 0, side, NONE);
+    while 0 < c {
+        c -= 1;
+        let whole = lay_free(line, sheet, &wholes, c);
+        wholes[c] = whole;
+        lay_greedy(line, sheet, c);
+    }
+}
+
+// Fills the sheet of a line: each entry is the greatest end within its limit. Number 3 comes before 18.
+pub fn fill_sheet(line: &[u8], sheet: &mut [u8]) -> Filling
+    ensures answers { λ r. ⌜ FillCall (now (line .entry)) (now (sheet .entry)) (fillSays r (now (sheet .exit))) ⌝ }
+    ensures fits { λ r. ⌜ FilledFits (now (line .entry)) (fillSays r (now (sheet .exit))) ⌝ }
+{
+    let found = line::check_line(line);
+    match found {
+        LineCheck::Good => {}
+        LineCheck::Bad { place } => {
+            return Filling::BadLine {
+                place: place as u32,
+            };
+        }
+    }
+    let side = line.len() + 1;
+    let words = HALVES * (side * side);
+    if sheet.len() != words {
+        return Filling::BadRoom;
+    }
+    fill(line, sheet);
+    Filling::Filled {
+        words: words as u32,
+    }
+}
