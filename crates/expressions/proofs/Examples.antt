@@ -37,6 +37,10 @@ examples =
     ∷ ends (97 ∷ 94 ∷ 98 ∷ []) 3 0
     -- `b2 - -1` from its second byte, with 13 for its second space
     ∷ ends (98 ∷ 50 ∷ 32 ∷ 45 ∷ 13 ∷ 45 ∷ 49 ∷ []) 7 1
+    -- ` a b`, `--x` and `+x`
+    ∷ ends (32 ∷ 97 ∷ 32 ∷ 98 ∷ []) 4 0
+    ∷ ends (45 ∷ 45 ∷ 120 ∷ []) 3 0
+    ∷ ends (43 ∷ 120 ∷ []) 2 0
     ∷ []
 
 pub computed : examples
@@ -50,6 +54,9 @@ pub computed : examples
     ∷ (none ∷ some 1 ∷ some 2 ∷ some 3 ∷ [])
     ∷ (none ∷ some 1 ∷ some 1 ∷ some 1 ∷ [])
     ∷ (none ∷ none ∷ some 2 ∷ some 2 ∷ some 2 ∷ some 2 ∷ some 2 ∷ some 7 ∷ [])
+    ∷ (none ∷ none ∷ some 2 ∷ some 2 ∷ some 2 ∷ [])
+    ∷ (none ∷ none ∷ none ∷ some 3 ∷ [])
+    ∷ (none ∷ none ∷ none ∷ [])
     ∷ []
 unfolding free rowFrom rowOf termAt upTo runEnd runTo signAt tokenAt isDigit isLetter isAlnum isOperator isMinus isOpener isCloser skipped usefulFrom isWhitespace range listed
 computed = refl
@@ -61,11 +68,11 @@ pub small-sheet : sheetOf (49 ∷ 97 ∷ [])
 unfolding sheetOf sheetByte inHalf entryFor greedy free rowFrom rowOf termAt upTo runEnd runTo signAt tokenAt isDigit isLetter isAlnum isOperator isMinus isOpener isCloser skipped usefulFrom isWhitespace range listed
 small-sheet = refl
 
--- no bound on nesting: 59 opening parentheses around a digit, and 119 minus signs before one
+-- no bound on nesting: 60 opening parentheses around a digit, of which a line has room for 59, and 119 minus signs before one
 abbrev times : ℕ → ℕ → List ℕ → List ℕ
 times n b rest = listed n (λ i. b) ++ rest
 
-pub deep : free (times 59 40 (49 ∷ times 59 41 [])) 0 119 ≡ some 119
+pub deep : free (times 60 40 (49 ∷ times 60 41 [])) 0 121 ≡ some 121
 unfolding free rowFrom rowOf termAt upTo runEnd runTo signAt tokenAt isDigit isLetter isAlnum isOperator isMinus isOpener isCloser skipped usefulFrom isWhitespace range listed
 deep = refl
 
