@@ -6,11 +6,11 @@ use Prim.Native.Nat.{ℕ, _≤_, _<_}
 use native.Mathlib.Omega.{arith}
 use lib.Dec.{eqb, leb}
 use borrow.Author.Tests.{eqb-true, leb-true}
-use Rattle.plain.proofs.Tests.{tested, or-cases, and-left, and-right}
+use Rattle.plain.proofs.Tests.{tested, not-both, or-cases, or-false-left, and-left, and-right}
 use Rattle.token.specs.Token.{isWhitespace}
 use Rattle.token.proofs.Bytes.{white-above}
 use Rattle.expressions.specs.Grammar.{isDigit, isLetter, isAlnum, isOperator, isMinus, isOpener, isCloser}
-use Rattle.expressions.specs.Filling.{wordKind, Parts}
+use Rattle.expressions.specs.Filling.{Parts}
 
 -- a kind of bytes with which a token may begin
 pub record Kind (kind : ℕ → Bool) : Type 0 where
@@ -120,15 +120,16 @@ pub letter-alnum : (b : ℕ) → isLetter b ≡ true → isAlnum b ≡ true
 unfolding isAlnum
 letter-alnum b h = rw h
 
-pub word-kind : (name : Bool) → Kind (wordKind name)
-word-kind true = alnum
-word-kind false = digit
+-- and nothing else is
+pub alnum-letter : (b : ℕ) → isAlnum b ≡ true → isDigit b ≡ false → isLetter b ≡ true
+unfolding isAlnum
+alnum-letter b h d = ⊎-elim (λ t. t) (λ t. absurd (not-both t d)) (or-cases (isLetter b) (isDigit b) h)
 
--- what a word goes on with, as the code tests it
-module _ (b : ℕ) where
-  pub name-goes-on : {name l d : Bool} → name ≡ true → l ≡ isLetter b → d ≡ isDigit b → (l || d) ≡ wordKind name b
-  unfolding isAlnum
-  name-goes-on {name} {l} {d} t p q = ap₂ _||_ p q ∙ sym (ap (λ (n : Bool). wordKind n b) t)
+pub no-letter : (b : ℕ) → isAlnum b ≡ false → isLetter b ≡ false
+unfolding isAlnum
+no-letter b h = or-false-left (isLetter b) (isDigit b) h
 
-  pub number-goes-on : {name d : Bool} → name ≡ false → d ≡ isDigit b → d ≡ wordKind name b
-  number-goes-on f q = q ∙ sym (ap (λ (n : Bool). wordKind n b) f)
+-- as the code tests it
+pub alnum-told : {l d : Bool} (b : ℕ) → l ≡ isLetter b → d ≡ isDigit b → (l || d) ≡ isAlnum b
+unfolding isAlnum
+alnum-told b p q = ap₂ _||_ p q

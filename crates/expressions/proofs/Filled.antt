@@ -16,7 +16,6 @@ use borrow.Author.Tests.{eqb-true, eq-eqb, ne-eqb}
 use Rattle.plain.specs.Choice.{select}
 use Rattle.plain.specs.Below.{everyBelow}
 use Rattle.plain.proofs.Below.{every-at}
-use Rattle.plain.proofs.Calls.{refused, passed}
 use Rattle.plain.proofs.Tests.{tested, not-both}
 use Rattle.token.specs.Token.{isWhitespace}
 use Rattle.syntax.specs.Walker.{byteAt}
@@ -26,14 +25,15 @@ use Rattle.extents.specs.declared.Half.the-variants.{Free, Greedy}
 use Rattle.extents.specs.Sheet.{sized, placeOf, entryAt, entryEnd}
 use Rattle.extents.proofs.Places.{in-half}
 use Rattle.extents.proofs.Size.{sized-length}
-use Rattle.expressions.specs.Grammar.{isDigit, isOperator, Begins, Digits, Expr}
+use Rattle.expressions.specs.Grammar.{isDigit, isAlnum, isOperator, Begins, Digits, Expr}
+use Rattle.expressions.specs.declared.Reach.{Reach}
 use Rattle.expressions.specs.Ends.{tokenAt, signAt, runEnd, upTo, TermAt, termAt, changesNone}
 use Rattle.expressions.specs.Sheet.{EndIn, endFor, byteOf, entryFor, sheetOf}
-use Rattle.expressions.specs.Filling.{Lays, WholeIs, Wholes, InLine, TermEnds, Made, rowStart, RowLaid, FreeAsked, FreeLaid}
-use Rattle.expressions.proofs.Bytes.{digit, operator}
-use Rattle.expressions.proofs.Tokens.{inside, byte-here, begins-there, token-from}
+use Rattle.expressions.specs.Filling.{Lays, WholeIs, Kept, Wholes, Tokens, Follows, Reaches, TermEnds, Made, rowStart, RowLaid, FreeAsked, FreeLaid}
+use Rattle.expressions.proofs.Bytes.{Kind, digit, alnum, operator}
+use Rattle.expressions.proofs.Tokens.{inside, byte-here, begins-there, token-from, token-next, token-over, token-inside}
 use Rattle.expressions.proofs.Spans.{expr-span}
-use Rattle.expressions.proofs.Runs.{run-more, run-inside}
+use Rattle.expressions.proofs.Runs.{run-inside, run-some, run-empty, run-next, run-over}
 use Rattle.expressions.proofs.Starts.{word-on, word-back, word-only, word-each}
 use Rattle.expressions.proofs.Greatest.{Greatest, greatest-map, up-low, up-here, up-past, up-greatest}
 use Rattle.expressions.proofs.Rows.{TermIs, some-term, no-terms, none-is, moved-whole, alone-within, alone-whole, joined-within, joined-whole, past-none, before-none, past-end, term-is}
@@ -268,8 +268,10 @@ module _ (line wholes : List ℕ) (c inner : ℕ) (w : Wholes line wholes (c + 1
   inner-whole : WholeIs line (suc c) (entryEnd inner)
   inner-whole = subst (λ (k : ℕ). WholeIs line k (entryEnd inner)) (add-one c) (subst (λ (x : ℕ). WholeIs line (c + 1) (entryEnd x)) (sym q) (w .each (c + 1) (omega arith) (omega arith)))
 
-  pub inner-in : InLine line (entryEnd inner)
-  inner-in m e = expr-span (inner-whole .ends m e) .1
+  pub inner-follows : (tokens : List ℕ) → length line ≤ 120 → Tokens line tokens (c + 1) → Follows line tokens (entryEnd inner)
+  inner-follows tokens short t m e =
+      let (low, high) = expr-span (inner-whole .ends m e) in
+      (omega (arith, t .many), t .each m (omega arith) high)
 
   module _ {r : Bool} (p : r ≡ changesNone (byteAt line c)) (f : r ≡ false) where
     pub term-none : none ≡ termAt line (entryEnd inner) c → TermIs line c none
@@ -284,9 +286,8 @@ module _ (line wholes : List ℕ) (c inner : ℕ) (w : Wholes line wholes (c + 1
 -- ---- a greedy row
 
 -- the digits from c on
-pub digits-top : {s : Bool} (line : List ℕ) (c : ℕ) → c < length line → (top : ℕ) → s ≡ isDigit (byteAt line c) → not s ≡ false → top ≡ runEnd isDigit line c
-    → (c < top) × (top ≤ length line)
-digits-top line c start top p t e = (omega (arith, run-more digit line c (passed p t)), omega (arith, run-inside digit line c (omega arith)))
+pub digits-top : (line : List ℕ) (c : ℕ) → c < length line → (top : ℕ) → c < top → top ≡ runEnd isDigit line c → (c < top) × (top ≤ length line)
+digits-top line c start top h e = (h, omega (arith, run-inside digit line c (omega arith)))
 
 module _ (line before after : List ℕ) (c : ℕ) (made : Made line before (c + 1)) (start : c < length line) where
   pub greedy-copied : {r : Bool} (later : ℕ) → r ≡ isWhitespace (byteAt line c) → r ≡ true → later ≡ (length line + 1) * (length line + 1) + (c + 1) * (length line + 1)
@@ -295,18 +296,19 @@ module _ (line before after : List ℕ) (c : ℕ) (made : Made line before (c + 
       row-copied line before after Greedy c made start (λ e x. word-on line c (sym q ∙ t) digit x) (λ e x. word-back line c (sym q ∙ t) x) later at k
 
   module _ {r : Bool} (q : r ≡ isWhitespace (byteAt line c)) (f : r ≡ false) where
-    pub greedy-none : {s : Bool} → s ≡ isDigit (byteAt line c) → not s ≡ true
+    pub greedy-none : (top : ℕ) → top ≡ runEnd isDigit line c → top ≤ c
         → Lays before after ((length line + 1) * (length line + 1) + c * (length line + 1)) 0 (length line + 1) (λ (l : ℕ). 255) → RowLaid line before after Greedy c
-    greedy-none p t k = row-none line before after Greedy c (λ e x. not-both (byte-here (sym q ∙ f) (x .begins)) (refused p t)) k
+    greedy-none top e h k = row-none line before after Greedy c (λ d x. not-both (byte-here (sym q ∙ f) (x .begins)) (run-empty digit line c (omega arith))) k
 
-    pub greedy-ends : {s : Bool} (between : List ℕ) (top : ℕ) → s ≡ isDigit (byteAt line c) → not s ≡ false → top ≡ runEnd isDigit line c
+    pub greedy-ends : (between : List ℕ) (top : ℕ) → top ≡ runEnd isDigit line c → c < top
         → Lays before between ((length line + 1) * (length line + 1) + c * (length line + 1)) 0 (top + 1) (λ (l : ℕ). byteOf (upTo c top l))
         → Lays between after ((length line + 1) * (length line + 1) + c * (length line + 1)) (top + 1) (length line + 1) (λ (l : ℕ). top) → RowLaid line before after Greedy c
-    greedy-ends between top p t e first second =
-        let (more, inside) = digits-top line c start top p t e in
+    greedy-ends between top e h first second =
+        let (more, inside) = digits-top line c start top h e in
+        let here = run-some digit line c (omega arith) in
         row-ends line before between after Greedy c c top
         (λ l. up-greatest c top l (Digits line c)
-        (λ d a b. word-each line c digit (passed p t) d a (omega arith))
+        (λ d a b. word-each line c digit here d a (omega arith))
         (λ d x. let (a, b) = word-only line c digit (sym q ∙ f) d x in (a, omega arith)))
         more inside first second
 
@@ -345,8 +347,17 @@ module _ {r : Bool} (line : List ℕ) (m t b : ℕ) (token : t ≡ tokenAt line 
   pub operator-none : r ≡ false → signAt isOperator line m ≡ none
   operator-none h = sign-off isOperator line m t b token byte (sym is ∙ h)
 
+-- the token after a term is known
+pub term-follows : {line sheet wholes tokens : List ℕ} {c low top : ℕ} → FreeAsked line sheet wholes tokens c → TermEnds line c low top
+    → (top < length tokens) × (getD tokens top 0 ≡ tokenAt line top) × (tokenAt line top ≤ length line)
+term-follows {line} {top = top} asked ends = (
+  omega (arith, asked .follow .many, asked .made .short, ends .inside),
+  asked .follow .each top (omega (arith, ends .after, ends .some)) (ends .inside),
+  token-inside line top (ends .inside),
+)
+
 -- with the place of the token after the term, and its byte
-module _ {r : Bool} (line before wholes between : List ℕ) (c low top t b : ℕ) (asked : FreeAsked line before wholes c) (ends : TermEnds line c low top)
+module _ {r : Bool} {line before wholes tokens between : List ℕ} {c low top t b : ℕ} (asked : FreeAsked line before wholes tokens c) (ends : TermEnds line c low top)
     (first : Lays before between (c * (length line + 1)) 0 (top + 1) (λ (l : ℕ). byteOf (upTo low top l)))
     (token : t ≡ tokenAt line top) (byte : b ≡ byteAt line t) (is : r ≡ isOperator b) (h : r ≡ true) where
   sign : Begins isOperator line top t
@@ -397,24 +408,78 @@ last-whole line wholes short many all = record {
       (subst (λ (x : ℕ). WholeIs line (length line) (entryEnd x)) (sym is) (none-is line (length line) (past-end line (length line) (omega arith)) .whole));
 }
 
--- one start more
-wholes-next : (line wholes : List ℕ) (c whole : ℕ) → Wholes line wholes (c + 1) → c < 121 → WholeIs line c (entryEnd whole) → Wholes line (set wholes c whole) c
-wholes-next line wholes c whole w h is = record {
-  many = length-set wholes c whole ∙ w .many;
-  each = λ k low high. elim (ℕ-discrete k c) [
-    | yes q ↦ subst (λ (j : ℕ). WholeIs line j (entryEnd (getD (set wholes c whole) j 0))) (sym q)
-        (subst (λ (x : ℕ). WholeIs line c (entryEnd x)) (sym (getD-set-same wholes c whole 0 (omega (arith, w .many)))) is)
-    | no d ↦ subst (λ (x : ℕ). WholeIs line k (entryEnd x)) (sym (getD-set-other wholes c k whole 0 d)) (w .each k (omega (arith, d)) high)
-  ];
-}
+-- ---- one start more
 
--- the loop counts down
-module _ (line sheet wholes : List ℕ) (c : ℕ) (in-line : c ≤ length line) (more : 0 < c) (made : Made line sheet c) (held : Wholes line wholes c) where
+module _ (line : List ℕ) (Says : ℕ → ℕ → Type 0) where
+  -- past the line nothing is kept
+  kept-none : (bytes : List ℕ) (c : ℕ) → length bytes ≡ 121 → length line < c → Kept line Says bytes c
+  kept-none bytes c many past = record { many = many; each = λ k low high. absurd (omega arith) }
+
+  kept-next : (bytes : List ℕ) (c byte : ℕ) → Kept line Says bytes (c + 1) → c < 121 → Says c byte → Kept line Says (set bytes c byte) c
+  kept-next bytes c byte w h is = record {
+    many = length-set bytes c byte ∙ w .many;
+    each = λ k low high. elim (ℕ-discrete k c) [
+      | yes q ↦ subst (λ (j : ℕ). Says j (getD (set bytes c byte) j 0)) (sym q) (subst (Says c) (sym (getD-set-same bytes c byte 0 (omega (arith, w .many)))) is)
+      | no d ↦ subst (Says k) (sym (getD-set-other bytes c k byte 0 d)) (w .each k (omega (arith, d)) high)
+    ];
+  }
+
+  kept-later : (bytes : List ℕ) (c : ℕ) → Kept line Says bytes c → Kept line Says bytes (c + 1)
+  kept-later bytes c w = record { many = w .many; each = λ k low high. w .each k (omega arith) high }
+
+-- the line's end
+pub last-token : (line tokens : List ℕ) → length line ≤ 120 → length tokens ≡ 121 → Tokens line (set tokens (length line) (length line)) (length line)
+last-token line tokens short many =
+    kept-next line (λ k b. b ≡ tokenAt line k) tokens (length line) (length line)
+    (kept-none line (λ k b. b ≡ tokenAt line k) tokens (length line + 1) many (omega arith)) (omega arith) (sym (token-over line))
+
+pub last-reach : (line : List ℕ) → Reaches line (length line) (record { digits = length line; names = length line })
+last-reach line = record { digits = sym (run-over digit line); names = sym (run-over alnum line) }
+
+-- the loop counts down: what is known from c on, and of the start before it by its byte
+module _ (line tokens : List ℕ) (c : ℕ) (in-line : c ≤ length line) (more : 0 < c) (short : length line ≤ 120) where
+  abbrev at : ℕ
+  at = c - 1
+
+  -- where its token begins
+  module _ {white : Bool} (held : Tokens line tokens c) (is : white ≡ isWhitespace (byteAt line at)) (next t : ℕ) (read : next ≡ getD tokens c 0) (told : t ≡ select white next at) where
+    here : t ≡ tokenAt line at
+    here =
+        let begin : at + 1 ≡ c = omega arith in
+        told
+        ∙ ap (λ (x : ℕ). select white x at) (read ∙ held .each c (omega arith) in-line ∙ ap (tokenAt line) (sym begin))
+        ∙ ap (λ (b : Bool). select b (tokenAt line (at + 1)) at) is
+        ∙ sym (token-next line at (omega arith))
+
+    pub token-small : t ≤ 120
+    token-small = omega (arith, here, token-inside line at (omega arith))
+
+    pub tokens-next : Tokens line (set tokens at t) at
+    tokens-next =
+        kept-next line (λ k b. b ≡ tokenAt line k) tokens at t
+        (subst (λ (k : ℕ). Tokens line tokens k) (omega arith) held) (omega arith) here
+
+  -- how far it reaches
+  pub reach-next : (reach next : Reach) → Reaches line c next
+      → (reach .digits ≡ select (isDigit (byteAt line at)) (next .digits) at) × (reach .names ≡ select (isAlnum (byteAt line at)) (next .names) at) → Reaches line at reach
+  reach-next reach next known (d, n) = record { digits = one digit (known .digits) d; names = one alnum (known .names) n }
+    where
+      one : {kind : ℕ → Bool} {x y : ℕ} → Kind kind → y ≡ runEnd kind line c → x ≡ select (kind (byteAt line at)) y at → x ≡ runEnd kind line at
+      one {kind} k q e =
+          let begin : at + 1 ≡ c = omega arith in
+          e ∙ ap (λ (z : ℕ). select (kind (byteAt line at)) z at) (q ∙ ap (runEnd kind line) (sym begin)) ∙ sym (run-next k line at (omega arith))
+
+module _ (line sheet wholes tokens : List ℕ) (c : ℕ) (in-line : c ≤ length line) (more : 0 < c) (made : Made line sheet c) (held : Wholes line wholes c) (follow : Tokens line tokens (c - 1)) where
   before : c ≡ c - 1 + 1
   before = omega arith
 
-  pub start-asked : FreeAsked line sheet wholes (c - 1)
-  start-asked = record { start = omega arith; made = subst (Made line sheet) before made; ends = subst (Wholes line wholes) before held }
+  pub start-asked : FreeAsked line sheet wholes tokens (c - 1)
+  start-asked = record {
+    start = omega arith;
+    made = subst (Made line sheet) before made;
+    ends = subst (λ (k : ℕ). Wholes line wholes k) before held;
+    follow = kept-later line (λ k b. b ≡ tokenAt line k) tokens (c - 1) follow;
+  }
 
   module _ (between : List ℕ) (whole : ℕ) (free : FreeLaid line sheet between (c - 1) whole) where
     pub greedy-asked : Made line between (c - 1 + 1) × (c - 1 < length line)
@@ -425,7 +490,7 @@ module _ (line sheet wholes : List ℕ) (c : ℕ) (in-line : c ≤ length line) 
     start-done after greedy = (
       omega arith,
       both-laid line sheet between after (c - 1) (free .row) greedy (omega arith) (made .short) (made .size) (λ half k l low high w. made .rows half k l (omega arith) high w),
-      wholes-next line wholes (c - 1) whole (start-asked .ends) (omega (arith, made .short)) (free .ends),
+      kept-next line (λ k b. WholeIs line k (entryEnd b)) wholes (c - 1) whole (start-asked .ends) (omega (arith, made .short)) (free .ends),
     )
 
 pub all-made : (line sheet : List ℕ) (c : ℕ) → c ≤ 0 → Made line sheet c → Made line sheet 0

@@ -1,6 +1,6 @@
--- Runs of bytes of a kind: where they end, and that the scan finds it.
+-- Runs of bytes of a kind: where they end, and how a start's run follows from the next one's.
 use mathlib.Core.Path.{_≡_, refl, sym, ap, _∙_, subst}
-use mathlib.Core.Bool.{Bool, true, false, not}
+use mathlib.Core.Bool.{Bool, true, false}
 use mathlib.Core.List.{List}
 use Prim.Native.Nat.{ℕ, zero, suc, _+_, _-_, _≤_, _<_}
 use native.Mathlib.Decide.{decLt, ℕ-discrete}
@@ -8,7 +8,6 @@ use native.Mathlib.Omega.{arith}
 use native.Mathlib.Numerals.{add-one}
 use lib.ListN.{length, List·getD-eq-default}
 use Rattle.plain.specs.Choice.{select}
-use Rattle.plain.proofs.Calls.{refused, passed}
 use Rattle.plain.proofs.Tests.{not-both}
 use Rattle.syntax.specs.Walker.{byteAt}
 use Rattle.expressions.specs.Ends.{runTo, runEnd}
@@ -75,17 +74,24 @@ module _ {kind : ℕ → Bool} (k : Kind kind) (line : List ℕ) where
         | no d ↦ omega (arith, d, r .from)
       ]
 
-  -- ---- the scan of the code, where it stands: the bytes from c to before i are of the kind
-  module _ (c : ℕ) where
-    pub run-none : Run kind line c c
-    run-none = λ i low high. absurd (omega arith)
+  -- and an empty one has none there
+  pub run-some : (c : ℕ) → c < runEnd kind line c → kind (byteAt line c) ≡ true
+  run-some c h = run-is c .run c (omega arith) h
 
-    pub run-step : {r : Bool} (i : ℕ) → Run kind line c i → r ≡ kind (byteAt line i) → not r ≡ false → Run kind line c (i + 1)
-    run-step i run q p = λ j low high. elim (ℕ-discrete j i) [ yes e ↦ ap (λ (n : ℕ). kind (byteAt line n)) e ∙ passed q p | no d ↦ run j low (omega (arith, d)) ]
+  pub run-empty : (c : ℕ) → runEnd kind line c ≤ c → kind (byteAt line c) ≡ false
+  run-empty c h =
+      let r = run-is c in
+      let same : runEnd kind line c ≡ c = omega (arith, r .from) in
+      ap (λ (n : ℕ). kind (byteAt line n)) (sym same) ∙ r .ends
 
-    pub run-stops : {r : Bool} (i : ℕ) → c ≤ i → Run kind line c i → r ≡ kind (byteAt line i) → not r ≡ true → i ≡ runEnd kind line c
-    run-stops i h run q p = run-one (record { from = h; run = run; ends = refused q p }) (run-is c)
+  -- a run is that of the next start, if the byte goes on with it
+  pub run-next : (c : ℕ) → c < length line → runEnd kind line c ≡ select (kind (byteAt line c)) (runEnd kind line (c + 1)) c
+  unfolding runEnd runTo
+  run-next c h =
+      let more : length line - c ≡ suc (length line - suc c) = omega arith in
+      ap (λ (d : ℕ). runTo kind line d c) more
+      ∙ ap (λ (n : ℕ). select (kind (byteAt line c)) (runTo kind line (length line - n) n) c) (sym (add-one c))
 
-    pub run-over : (i : ℕ) → c ≤ i → Run kind line c i → length line ≤ i → i ≡ runEnd kind line c
-    run-over i h run l =
-        run-one (record { from = h; run = run; ends = ap kind (List·getD-eq-default line 0 l) ∙ past k }) (run-is c)
+  pub run-over : runEnd kind line (length line) ≡ length line
+  unfolding runEnd runTo
+  run-over = let none : length line - length line ≡ 0 = omega arith in ap (λ (d : ℕ). runTo kind line d (length line)) none

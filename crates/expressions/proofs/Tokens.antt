@@ -15,7 +15,7 @@ use Rattle.plain.proofs.Tests.{tested, not-both}
 use Rattle.token.specs.Token.{isWhitespace}
 use Rattle.syntax.specs.Walker.{byteAt, skipped, usefulFrom, useful}
 use Rattle.syntax.specs.declared.walker.Walker.{Walker}
-use Rattle.syntax.proofs.Useful.{useful-is, useful-one}
+use Rattle.syntax.proofs.Useful.{useful-end, useful-here, useful-later, useful-is, useful-one}
 use Rattle.expressions.specs.Grammar.{Begins, Sign, Word}
 use Rattle.expressions.specs.Ends.{tokenAt, signAt}
 use Rattle.expressions.proofs.Bytes.{Kind, solid, past}
@@ -37,6 +37,23 @@ token-from line c =
       | yes h ↦ let none : slice c (length line) line ≡ [] = drop-of-length-le (take (length line) line) {i = c} (omega (arith, length-take-le (length line) line (omega arith))) in
           rw none (omega arith)
     ]
+
+-- it is that of the next start, if whitespace stands here
+pub token-next : (line : List ℕ) (c : ℕ) → c < length line → tokenAt line c ≡ select (isWhitespace (byteAt line c)) (tokenAt line (c + 1)) c
+unfolding tokenAt
+token-next line c h = go (isWhitespace (byteAt line c)) refl
+  where
+    go : (t : Bool) → isWhitespace (byteAt line c) ≡ t → usefulFrom line c (length line) ≡ select t (usefulFrom line (c + 1) (length line)) c
+    go true e = sym (useful-later line (length line) (omega arith) c h e)
+    go false e = useful-here line (length line) (omega arith) c h e
+
+pub token-over : (line : List ℕ) → tokenAt line (length line) ≡ length line
+unfolding tokenAt
+token-over line = useful-end line (length line) (omega arith)
+
+pub token-inside : (line : List ℕ) (c : ℕ) → c ≤ length line → tokenAt line c ≤ length line
+unfolding tokenAt useful
+token-inside line c h = useful-is line (record { cursor = c; limit = length line }) (h, omega arith) .within
 
 module _ {kind : ℕ → Bool} (k : Kind kind) (line : List ℕ) (c : ℕ) where
   -- a token begins at one place after c

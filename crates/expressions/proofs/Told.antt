@@ -1,6 +1,6 @@
 -- What the code's tests of a start tell, over plain values, with premises in the code's form.
-use mathlib.Core.Path.{_≡_, refl, sym, ap, _∙_}
-use mathlib.Core.Bool.{Bool, true, false}
+use mathlib.Core.Path.{_≡_, refl, sym, ap, ap₂, _∙_}
+use mathlib.Core.Bool.{Bool, true, false, _||_}
 use mathlib.Core.List.{List}
 use mathlib.Core.Option.{Option, none, some}
 use Prim.Native.Nat.{ℕ, suc, _+_, _≤_, _<_}
@@ -10,21 +10,19 @@ use lib.Dec.{eqb}
 use lib.ListN.{length}
 use borrow.Author.Tests.{eq-eqb, ne-eqb}
 use Rattle.plain.specs.Choice.{select}
-use Rattle.syntax.specs.Walker.{byteAt, held, useful}
-use Rattle.syntax.specs.declared.walker.Walker.{Walker}
-use Rattle.syntax.proofs.Useful.{held-same, useful-is}
+use Rattle.token.specs.Token.{isWhitespace}
+use Rattle.syntax.specs.Walker.{byteAt}
 use Rattle.extents.specs.Sheet.{entryEnd}
-use Rattle.expressions.specs.Grammar.{isDigit, isLetter, isAlnum, isOpener, isCloser}
-use Rattle.expressions.specs.Ends.{tokenAt, signAt, runEnd, TermAt, closedAt, closedAfter, termAt}
+use Rattle.expressions.specs.Grammar.{isDigit, isLetter, isAlnum, isMinus, isOpener, isCloser}
+use Rattle.expressions.specs.Ends.{tokenAt, signAt, runEnd, TermAt, closedAt, closedAfter, changesNone, termAt}
+use Rattle.expressions.specs.Filling.{Reaches}
+use Rattle.expressions.specs.declared.Reach.{Reach}
+use Rattle.expressions.proofs.Bytes.{digit, alnum, alnum-letter, no-letter}
+use Rattle.expressions.proofs.Runs.{run-some, run-empty}
 
--- the walker's useful place is the token's
-pub token-told : (line : List ℕ) (c r : ℕ) → c ≤ length line → r ≡ useful line (held line (record { cursor = c; limit = length line }))
-    → (r ≡ tokenAt line c) × (r ≤ length line)
-unfolding tokenAt useful
-token-told line c r h e =
-    let w : Walker = record { cursor = c; limit = length line } in
-    let same : r ≡ useful line w = e ∙ ap (useful line) (held-same line w (h, omega arith)) in
-    (same, omega (arith, useful-is line w (h, omega arith) .within))
+-- whitespace or a minus, as the code tests them
+pub changes-told : {w m : Bool} (b : ℕ) → w ≡ isWhitespace b → m ≡ isMinus b → (w || m) ≡ changesNone b
+changes-told b p q = ap₂ _||_ p q
 
 -- ---- the byte with which the token after m begins
 
@@ -66,7 +64,7 @@ module _ (line : List ℕ) (inner : ℕ) where
 
 -- ---- a term
 
-module _ (line : List ℕ) (inner : Option ℕ) (c b : ℕ) (byte : b ≡ byteAt line c) where
+module _ (line : List ℕ) (inner : Option ℕ) (c : ℕ) (reach : Reach) (known : Reaches line c reach) where
   -- the term by the byte's three tests
   abbrev by : Bool → Bool → Bool → Option TermAt
   by d l o =
@@ -74,30 +72,36 @@ module _ (line : List ℕ) (inner : Option ℕ) (c b : ℕ) (byte : b ≡ byteAt
       (select l (some (record { low = c; top = runEnd isAlnum line c }))
       (select o (closedAfter line inner) none))
 
-  pub term-digit : {r : Bool} (e : ℕ) → r ≡ isDigit b → r ≡ true → e ≡ runEnd isDigit line c → some (record { low = c; top = e }) ≡ termAt line inner c
+  pub term-digit : c < reach .digits → some (record { low = c; top = reach .digits }) ≡ termAt line inner c
   unfolding termAt
-  term-digit e q h k =
-      ap (λ (x : ℕ). some (record { low = c; top = x })) k
-      ∙ sym (ap (λ (d : Bool). by d (isLetter (byteAt line c)) (isOpener (byteAt line c))) (ap isDigit (sym byte) ∙ sym q ∙ h))
+  term-digit h =
+      ap (λ (x : ℕ). some (record { low = c; top = x })) (known .digits)
+      ∙ sym (ap (λ (d : Bool). by d (isLetter (byteAt line c)) (isOpener (byteAt line c))) (run-some digit line c (omega (arith, known .digits))))
 
-  module _ {r : Bool} (q : r ≡ isDigit b) (h : r ≡ false) where
-    no-digit : termAt line inner c ≡ by false (isLetter (byteAt line c)) (isOpener (byteAt line c))
+  module _ (none-here : reach .digits ≤ c) where
+    no-digit : isDigit (byteAt line c) ≡ false
+    no-digit = run-empty digit line c (omega (arith, known .digits))
+
+    by-letter : termAt line inner c ≡ by false (isLetter (byteAt line c)) (isOpener (byteAt line c))
     unfolding termAt
-    no-digit = ap (λ (d : Bool). by d (isLetter (byteAt line c)) (isOpener (byteAt line c))) (ap isDigit (sym byte) ∙ sym q ∙ h)
+    by-letter = ap (λ (d : Bool). by d (isLetter (byteAt line c)) (isOpener (byteAt line c))) no-digit
 
-    pub term-letter : {s : Bool} (e : ℕ) → s ≡ isLetter b → s ≡ true → e ≡ runEnd isAlnum line c → some (record { low = c; top = e }) ≡ termAt line inner c
-    term-letter e p k m =
-        ap (λ (x : ℕ). some (record { low = c; top = x })) m
-        ∙ sym (no-digit ∙ ap (λ (l : Bool). by false l (isOpener (byteAt line c))) (ap isLetter (sym byte) ∙ sym p ∙ k))
+    pub term-letter : c < reach .names → some (record { low = c; top = reach .names }) ≡ termAt line inner c
+    term-letter h =
+        ap (λ (x : ℕ). some (record { low = c; top = x })) (known .names)
+        ∙ sym (by-letter ∙ ap (λ (l : Bool). by false l (isOpener (byteAt line c)))
+        (alnum-letter (byteAt line c) (run-some alnum line c (omega (arith, known .names))) no-digit))
 
-    module _ {s : Bool} (p : s ≡ isLetter b) (k : s ≡ false) where
-      no-letter : termAt line inner c ≡ by false false (isOpener (byteAt line c))
-      no-letter = no-digit ∙ ap (λ (l : Bool). by false l (isOpener (byteAt line c))) (ap isLetter (sym byte) ∙ sym p ∙ k)
+    module _ (no-name : reach .names ≤ c) where
+      by-opener : termAt line inner c ≡ by false false (isOpener (byteAt line c))
+      by-opener =
+          by-letter ∙ ap (λ (l : Bool). by false l (isOpener (byteAt line c)))
+          (no-letter (byteAt line c) (run-empty alnum line c (omega (arith, known .names))))
 
-      pub term-opener : {o : Option TermAt} → b ≡ 40 → o ≡ closedAfter line inner → o ≡ termAt line inner c
+      pub term-opener : {o : Option TermAt} → byteAt line c ≡ 40 → o ≡ closedAfter line inner → o ≡ termAt line inner c
       unfolding isOpener
-      term-opener m e = e ∙ sym (no-letter ∙ ap (λ (o : Bool). by false false o) (ap isOpener (sym byte) ∙ eq-eqb b 40 m))
+      term-opener m e = e ∙ sym (by-opener ∙ ap (λ (o : Bool). by false false o) (eq-eqb (byteAt line c) 40 m))
 
-      pub term-nothing : (b ≡ 40 → ⊥) → none ≡ termAt line inner c
+      pub term-nothing : (byteAt line c ≡ 40 → ⊥) → none ≡ termAt line inner c
       unfolding isOpener
-      term-nothing m = sym (no-letter ∙ ap (λ (o : Bool). by false false o) (ap isOpener (sym byte) ∙ ne-eqb b 40 m))
+      term-nothing m = sym (by-opener ∙ ap (λ (o : Bool). by false false o) (ne-eqb (byteAt line c) 40 m))

@@ -10,15 +10,11 @@ use Rattle.extents.specs.declared.Half.{Half}
 use Rattle.extents.specs.declared.Half.the-variants.{Free, Greedy}
 use Rattle.extents.specs.Sheet.{sized, entryAt, entryEnd}
 use Rattle.expressions.specs.Grammar.{isDigit, isAlnum, isCloser, Begins, Term, Expr}
-use Rattle.expressions.specs.Ends.{TermAt}
+use Rattle.expressions.specs.Ends.{tokenAt, runEnd, TermAt}
 use Rattle.expressions.specs.Sheet.{entryFor}
+use Rattle.expressions.specs.declared.Reach.{Reach}
 use Rattle.expressions.specs.declared.TermFound.{TermFound}
 use Rattle.expressions.specs.declared.TermFound.the-variants.{Ends, Nothing}
-
--- the bytes with which a name, or else a number, goes on
-abbrev pub wordKind : Bool → (ℕ → Bool)
-wordKind true = isAlnum
-wordKind false = isDigit
 
 -- of the entries at at + l, those for l from `from` to before `to` are f l, and all others stay
 pub record Lays (before after : List ℕ) (at from to : ℕ) (f : ℕ → ℕ) : Type 0 where
@@ -31,14 +27,27 @@ pub record WholeIs (line : List ℕ) (c : ℕ) (o : Option ℕ) : Type 0 where
   pub ends : (m : ℕ) → o ≡ some m → Expr line c m
   pub only : (m p : ℕ) → Expr line c m → Begins isCloser line m p → o ≡ some m
 
--- the whole ends of the starts from c on, a byte each
-pub record Wholes (line wholes : List ℕ) (c : ℕ) : Type 0 where
-  pub many : length wholes ≡ 121
-  pub each : (k : ℕ) → c ≤ k → k ≤ length line → WholeIs line k (entryEnd (getD wholes k 0))
+-- a byte is kept for each start of the longest line, and from c on each says what it is kept for
+pub record Kept (line : List ℕ) (Says : ℕ → ℕ → Type 0) (bytes : List ℕ) (c : ℕ) : Type 0 where
+  pub many : length bytes ≡ 121
+  pub each : (k : ℕ) → c ≤ k → k ≤ length line → Says k (getD bytes k 0)
 
--- an end, if there is one, lies in the line
-abbrev pub InLine : List ℕ → Option ℕ → Type 0
-InLine line o = (m : ℕ) → o ≡ some m → m ≤ length line
+-- the whole ends of the starts from c on
+abbrev pub Wholes : List ℕ → List ℕ → ℕ → Type 0
+Wholes line wholes c = Kept line (λ k b. WholeIs line k (entryEnd b)) wholes c
+
+-- where the tokens after the starts from c on begin
+abbrev pub Tokens : List ℕ → List ℕ → ℕ → Type 0
+Tokens line tokens c = Kept line (λ k b. b ≡ tokenAt line k) tokens c
+
+-- the token after an end, if there is one, is known
+abbrev pub Follows : List ℕ → List ℕ → Option ℕ → Type 0
+Follows line tokens o = (m : ℕ) → o ≡ some m → (m < length tokens) × (getD tokens m 0 ≡ tokenAt line m)
+
+-- how far digits, and letters and digits, reach from c
+pub record Reaches (line : List ℕ) (c : ℕ) (reach : Reach) : Type 0 where
+  pub digits : reach .digits ≡ runEnd isDigit line c
+  pub names : reach .names ≡ runEnd isAlnum line c
 
 -- a kind of bytes that go on with no name and no number
 abbrev pub Parts : (ℕ → Bool) → Type 0
@@ -69,10 +78,11 @@ abbrev pub RowLaid : List ℕ → List ℕ → List ℕ → Half → ℕ → Typ
 RowLaid line before after half c = Lays before after (rowStart (length line) half c) 0 (length line + 1) (entryFor line half c)
 
 -- what a free row is laid from: the later starts
-pub record FreeAsked (line sheet wholes : List ℕ) (c : ℕ) : Type 0 where
+pub record FreeAsked (line sheet wholes tokens : List ℕ) (c : ℕ) : Type 0 where
   pub start : c < length line
   pub made : Made line sheet (c + 1)
   pub ends : Wholes line wholes (c + 1)
+  pub follow : Tokens line tokens (c + 1)
 
 -- a free row that is laid, and the whole end of its start
 pub record FreeLaid (line before after : List ℕ) (c whole : ℕ) : Type 0 where

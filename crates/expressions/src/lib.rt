@@ -1,9 +1,8 @@
 // The extent sheet of a line, filled from the line itself: order 5's grammar of delta expressions. It is added by the port:
 // the Rust's expression parsers are not in its published text. Starts go from the line's end to its beginning, and each is
-// judged by its byte and by what is known of later starts, so nesting costs no recursion. It refuses a bad line (3), then a
-// sheet of the wrong length (18), and leaves the sheet unchanged in both.
+// judged by its byte and by what is known of later starts, so nesting costs no recursion and no byte is read twice. It refuses
+// a bad line (3), then a sheet of the wrong length (18), and leaves the sheet unchanged in both.
 use line::LineCheck;
-use syntax::walker::Walker;
 ghost use mathlib.Core.Path.{_≡_};
 ghost use mathlib.Core.Bool.{true};
 ghost use Prim.Native.Nat.{ℕ, _+_, _≤_, _<_};
@@ -13,11 +12,12 @@ ghost use Rattle.plain.specs.Choice.{select};
 ghost use Rattle.syntax.specs.Walker.{byteAt};
 ghost use Rattle.extents.specs.Sheet.{sized, entryEnd};
 ghost use Rattle.extents.specs.declared.Half.the-variants as Half;
-ghost use Rattle.expressions.specs.Grammar.{isDigit, isLetter, isOperator};
-ghost use Rattle.expressions.specs.Ends.{tokenAt, runEnd, upTo, termAt, closedAfter, changesNone};
+ghost use Rattle.token.specs.Token.{isWhitespace};
+ghost use Rattle.expressions.specs.Grammar.{isDigit, isLetter, isAlnum, isOperator};
+ghost use Rattle.expressions.specs.Ends.{runEnd, upTo, termAt, closedAfter};
 ghost use Rattle.expressions.specs.Sheet.{byteOf};
 ghost use Rattle.expressions.specs.Call.{FillCall, FilledFits, fillSays};
-ghost use Rattle.expressions.specs.Filling.{wordKind, Lays, InLine, TermEnds, FreeAsked, FreeLaid, RowLaid, Made, termSays};
+ghost use Rattle.expressions.specs.Filling.{Lays, Reaches, Follows, TermEnds, FreeAsked, FreeLaid, RowLaid, Made, termSays};
 
 // An entry's byte that says: no end here.
 const NONE: u8 = 255;
@@ -36,6 +36,12 @@ pub enum Filling {
     BadLine { place: u32 },
     // 18: the sheet's length is wrong.
     BadRoom,
+}
+
+// How far the digits, and the letters and digits, that begin at a start reach.
+struct Reach {
+    digits: usize,
+    names: usize,
 }
 
 // A term's ends: low + 1 to top.
@@ -64,25 +70,6 @@ fn is_operator(b: u8) -> bool
     (b == 43) | ((b == 45) | ((b == 42) | ((b == 47) | ((b == 38) | (b == 124)))))
 }
 
-// Whether a start with this byte has the ends of the start after it.
-fn changes_none(b: u8) -> bool
-    ensures { λ r. ⌜ r ≡ changesNone b ⌝ }
-{
-    token::is_whitespace(b) | (b == 45)
-}
-
-// Where a token after c begins.
-fn token_at(line: &[u8], c: usize) -> usize
-    requires { ⌜ c ≤ length (now line) ⌝ }
-    ensures { λ r. ⌜ (r ≡ tokenAt (now (line .entry)) c) × (r ≤ length (now (line .entry))) ⌝ }
-{
-    let walker = Walker {
-        cursor: c,
-        limit: line.len(),
-    };
-    walker.next_useful_index(line)
-}
-
 // The byte at a place, or 0 past the line.
 fn byte_at(line: &[u8], i: usize) -> u8
     ensures { λ r. ⌜ r ≡ byteAt (now (line .entry)) i ⌝ }
@@ -93,29 +80,30 @@ fn byte_at(line: &[u8], i: usize) -> u8
     line[i]
 }
 
-// Whether a name, or else a number, goes on with this byte.
-fn goes_on(name: bool, b: u8) -> bool
-    ensures { λ r. ⌜ r ≡ wordKind name b ⌝ }
+// A place, as it is kept in a byte.
+fn wide(place: u8) -> usize
+    ensures { λ r. ⌜ (r ≡ place) × (r ≤ 255) ⌝ }
 {
-    if name {
-        return is_letter(b) | is_digit(b);
-    }
-    is_digit(b)
+    place as usize
 }
 
-// Past the bytes from c on with which a name, or else a number, goes on.
-fn run_end(line: &[u8], name: bool, c: usize) -> usize
-    requires { ⌜ c ≤ length (now line) ⌝ }
-    ensures { λ r. ⌜ r ≡ runEnd (wordKind name) (now (line .entry)) c ⌝ }
+// The next start's value, if a start goes on with it, or else one of its own.
+fn next_or(more: bool, next: usize, own: usize) -> usize
+    ensures { λ r. ⌜ r ≡ select more next own ⌝ }
 {
-    let mut i = c;
-    while i < line.len() {
-        if !goes_on(name, line[i]) {
-            return i;
-        }
-        i += 1;
+    if more { next } else { own }
+}
+
+// How far they reach from a start, by its byte and the next start's reach.
+fn reach_at(b: u8, c: usize, next: Reach) -> Reach
+    ensures { λ r. ⌜ (r .digits ≡ select (isDigit b) (next .digits) c) × (r .names ≡ select (isAlnum b) (next .names) c) ⌝ }
+{
+    let digit = is_digit(b);
+    let letter = is_letter(b);
+    Reach {
+        digits: next_or(digit, next.digits, c),
+        names: next_or(letter | digit, next.names, c),
     }
-    i
 }
 
 // ---- runs of entries
@@ -184,14 +172,15 @@ fn lay_ends(sheet: &mut [u8], at: usize, low: usize, top: usize)
 // ---- a start
 
 // The term of an opener, if an expression after it is whole at `inner`.
-fn closed_after(line: &[u8], inner: u8) -> TermFound
-    requires { ⌜ InLine (now line) (entryEnd inner) ⌝ }
+fn closed_after(line: &[u8], tokens: &[u8], inner: u8) -> TermFound
+    requires { ⌜ Follows (now line) (now tokens) (entryEnd inner) ⌝ }
     ensures { λ r. ⌜ termSays r ≡ closedAfter (now (line .entry)) (entryEnd inner) ⌝ }
 {
     if inner == NONE {
         return TermFound::Nothing;
     }
-    let sign = token_at(line, inner as usize);
+    let end = wide(inner);
+    let sign = wide(tokens[end]);
     if byte_at(line, sign) != 41 {
         return TermFound::Nothing;
     }
@@ -202,40 +191,47 @@ fn closed_after(line: &[u8], inner: u8) -> TermFound
 }
 
 // The term at c, where neither whitespace nor a minus stands.
-fn term_at(line: &[u8], inner: u8, c: usize) -> TermFound
+fn term_at(line: &[u8], tokens: &[u8], inner: u8, c: usize, reach: Reach) -> TermFound
     requires { ⌜ c < length (now line) ⌝ }
-    requires { ⌜ InLine (now line) (entryEnd inner) ⌝ }
+    requires { ⌜ Reaches (now line) c reach ⌝ }
+    requires { ⌜ Follows (now line) (now tokens) (entryEnd inner) ⌝ }
     ensures { λ r. ⌜ termSays r ≡ termAt (now (line .entry)) (entryEnd inner) c ⌝ }
 {
-    let b = line[c];
-    if is_digit(b) {
+    let digits = reach.digits;
+    if c < digits {
         return TermFound::Ends {
             low: c,
-            top: run_end(line, false, c),
+            top: digits,
         };
     }
-    if is_letter(b) {
-        return TermFound::Ends {
-            low: c,
-            top: run_end(line, true, c),
-        };
+    let names = reach.names;
+    if c < names {
+        return TermFound::Ends { low: c, top: names };
     }
-    if b == 40 {
-        return closed_after(line, inner);
+    if line[c] == 40 {
+        return closed_after(line, tokens, inner);
     }
     TermFound::Nothing
 }
 
 // Lays the free row of a term's start, and returns where the expression is whole.
-fn lay_term(line: &[u8], sheet: &mut [u8], wholes: &[u8], c: usize, low: usize, top: usize) -> u8
-    requires { ⌜ FreeAsked (now line) (now sheet) (now wholes) c ⌝ }
+fn lay_term(
+    line: &[u8],
+    sheet: &mut [u8],
+    wholes: &[u8],
+    tokens: &[u8],
+    c: usize,
+    low: usize,
+    top: usize,
+) -> u8
+    requires { ⌜ FreeAsked (now line) (now sheet) (now wholes) (now tokens) c ⌝ }
     requires { ⌜ TermEnds (now line) c low top ⌝ }
     ensures { λ r. ⌜ FreeLaid (now (line .entry)) (now (sheet .entry)) (now (sheet .exit)) c r ⌝ }
 {
     let side = line.len() + 1;
     let row = c * side;
     lay_ends(sheet, row, low, top);
-    let sign = token_at(line, top);
+    let sign = wide(tokens[top]);
     let next = sign + 1;
     let end = top as u8;
     if is_operator(byte_at(line, sign)) {
@@ -247,19 +243,30 @@ fn lay_term(line: &[u8], sheet: &mut [u8], wholes: &[u8], c: usize, low: usize, 
 }
 
 // Lays the free row of a start, and returns where the expression is whole.
-fn lay_free(line: &[u8], sheet: &mut [u8], wholes: &[u8], c: usize) -> u8
-    requires { ⌜ FreeAsked (now line) (now sheet) (now wholes) c ⌝ }
+fn lay_free(
+    line: &[u8],
+    sheet: &mut [u8],
+    wholes: &[u8],
+    tokens: &[u8],
+    c: usize,
+    white: bool,
+    reach: Reach,
+) -> u8
+    requires { ⌜ FreeAsked (now line) (now sheet) (now wholes) (now tokens) c ⌝ }
+    requires { ⌜ white ≡ isWhitespace (byteAt (now line) c) ⌝ }
+    requires { ⌜ Reaches (now line) c reach ⌝ }
     ensures { λ r. ⌜ FreeLaid (now (line .entry)) (now (sheet .entry)) (now (sheet .exit)) c r ⌝ }
 {
     let side = line.len() + 1;
     let row = c * side;
     let inner = wholes[c + 1];
-    if changes_none(line[c]) {
+    let minus = line[c] == 45;
+    if white | minus {
         lay_from(sheet, row, 0, side, row + side, NONE);
         return inner;
     }
-    match term_at(line, inner, c) {
-        TermFound::Ends { low, top } => lay_term(line, sheet, wholes, c, low, top),
+    match term_at(line, tokens, inner, c, reach) {
+        TermFound::Ends { low, top } => lay_term(line, sheet, wholes, tokens, c, low, top),
         TermFound::Nothing => {
             lay(sheet, row, 0, side, NONE);
             NONE
@@ -268,45 +275,55 @@ fn lay_free(line: &[u8], sheet: &mut [u8], wholes: &[u8], c: usize) -> u8
 }
 
 // Lays the greedy row of a start.
-fn lay_greedy(line: &[u8], sheet: &mut [u8], c: usize)
+fn lay_greedy(line: &[u8], sheet: &mut [u8], c: usize, white: bool, digits: usize)
     requires { ⌜ Made (now line) (now sheet) (c + 1) ⌝ }
     requires { ⌜ c < length (now line) ⌝ }
+    requires { ⌜ white ≡ isWhitespace (byteAt (now line) c) ⌝ }
+    requires { ⌜ digits ≡ runEnd isDigit (now line) c ⌝ }
     ensures { λ _. ⌜ RowLaid (now (line .entry)) (now (sheet .entry)) (now (sheet .exit)) Half.Greedy c ⌝ }
 {
     let side = line.len() + 1;
     let row = side * side + c * side;
-    let b = line[c];
-    let white = token::is_whitespace(b);
     if white {
         lay_from(sheet, row, 0, side, row + side, NONE);
         return;
     }
-    let digit = is_digit(b);
-    if !digit {
+    if digits <= c {
         lay(sheet, row, 0, side, NONE);
         return;
     }
-    let top = run_end(line, false, c);
-    lay_ends(sheet, row, c, top);
-    lay(sheet, row, top + 1, side, top as u8);
+    lay_ends(sheet, row, c, digits);
+    lay(sheet, row, digits + 1, side, digits as u8);
 }
 
-// Fills the sheet of a line of at most 120 bytes.
+// Fills the sheet of a line of at most 120 bytes. Of each start are kept where its expression is whole and where the next token
+// begins, and of the last one how far it reaches.
 fn fill(line: &[u8], sheet: &mut [u8])
     requires { ⌜ length (now line) ≤ 120 ⌝ }
     requires { ⌜ sized (now sheet) (length (now line)) ≡ true ⌝ }
     ensures { λ _. ⌜ Made (now (line .entry)) (now (sheet .exit)) 0 ⌝ }
 {
     let side = line.len() + 1;
-    let mut wholes = [NONE; STARTS];
     let mut c = line.len();
+    let mut wholes = [NONE; STARTS];
+    let mut tokens = [0u8; STARTS];
+    tokens[c] = c as u8;
+    let mut reach = Reach {
+        digits: c,
+        names: c,
+    };
     lay(sheet, c * side, 0, side, NONE);
     lay(sheet, side * side + c * side, 0, side, NONE);
     while 0 < c {
+        let next = wide(tokens[c]);
         c -= 1;
-        let whole = lay_free(line, sheet, &wholes, c);
+        let b = line[c];
+        let white = token::is_whitespace(b);
+        tokens[c] = next_or(white, next, c) as u8;
+        reach = reach_at(b, c, reach);
+        let whole = lay_free(line, sheet, &wholes, &tokens, c, white, reach);
         wholes[c] = whole;
-        lay_greedy(line, sheet, c);
+        lay_greedy(line, sheet, c, white, reach.digits);
     }
 }
 
