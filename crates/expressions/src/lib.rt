@@ -55,19 +55,19 @@ enum TermFound {
 fn is_digit(b: u8) -> bool
     ensures { λ r. ⌜ r ≡ isDigit b ⌝ }
 {
-    (48 <= b) & (b <= 57)
+    (b'0' <= b) & (b <= b'9')
 }
 
 fn is_letter(b: u8) -> bool
     ensures { λ r. ⌜ r ≡ isLetter b ⌝ }
 {
-    ((65 <= b) & (b <= 90)) | ((97 <= b) & (b <= 122))
+    ((b'A' <= b) & (b <= b'Z')) | ((b'a' <= b) & (b <= b'z'))
 }
 
 fn is_operator(b: u8) -> bool
     ensures { λ r. ⌜ r ≡ isOperator b ⌝ }
 {
-    (b == 43) | ((b == 45) | ((b == 42) | ((b == 47) | ((b == 38) | (b == 124)))))
+    (b == b'+') | ((b == b'-') | ((b == b'*') | ((b == b'/') | ((b == b'&') | (b == b'|')))))
 }
 
 // The byte at a place, or 0 past the line.
@@ -181,7 +181,7 @@ fn closed_after(line: &[u8], tokens: &[u8], inner: u8) -> TermFound
     }
     let end = wide(inner);
     let sign = wide(tokens[end]);
-    if byte_at(line, sign) != 41 {
+    if byte_at(line, sign) != b')' {
         return TermFound::Nothing;
     }
     TermFound::Ends {
@@ -208,7 +208,7 @@ fn term_at(line: &[u8], tokens: &[u8], inner: u8, c: usize, reach: Reach) -> Ter
     if c < names {
         return TermFound::Ends { low: c, top: names };
     }
-    if line[c] == 40 {
+    if line[c] == b'(' {
         return closed_after(line, tokens, inner);
     }
     TermFound::Nothing
@@ -260,7 +260,7 @@ fn lay_free(
     let side = line.len() + 1;
     let row = c * side;
     let inner = wholes[c + 1];
-    let minus = line[c] == 45;
+    let minus = line[c] == b'-';
     if white | minus {
         lay_from(sheet, row, 0, side, row + side, NONE);
         return inner;
