@@ -247,9 +247,10 @@ pub fn programs() -> Vec<Program> {
 type Expressions = (&'static str, fn(usize) -> Vec<u8>);
 
 /// Lines of expressions: as a glyph program has them, and those where one thing is all there is.
-pub const EXPRESSIONS: [Expressions; 6] = [
+pub const EXPRESSIONS: [Expressions; 7] = [
     ("glyph", |n| repeated("delta 5 + stem*2, (left - 3), ", n)),
     ("digits", |n| repeated("7", n)),
+    ("letters", |n| repeated("a", n)),
     ("chain", |n| repeated("a+", n)),
     ("minuses", |n| repeated("-", n)),
     ("parentheses", |n| {
