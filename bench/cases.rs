@@ -1,5 +1,5 @@
 //! The inputs: rule tables as a house would write them, by size and by kind, with a short and a long line for each; one table
-//! made for the cut, on lines full of brackets; and programs of many lines.
+//! made for the cut, on lines full of brackets; programs of many lines; and lines of expressions of any length.
 
 use crate::notation::rule;
 
@@ -241,6 +241,32 @@ pub fn programs() -> Vec<Program> {
         }
     }
     programs
+}
+
+/// A kind of line: its name, and the line of so many bytes.
+type Expressions = (&'static str, fn(usize) -> Vec<u8>);
+
+/// Lines of expressions: as a glyph program has them, and those where one thing is all there is.
+pub const EXPRESSIONS: [Expressions; 7] = [
+    ("glyph", |n| repeated("delta 5 + stem*2, (left - 3), ", n)),
+    ("digits", |n| repeated("7", n)),
+    ("letters", |n| repeated("a", n)),
+    ("chain", |n| repeated("a+", n)),
+    ("minuses", |n| repeated("-", n)),
+    ("parentheses", |n| {
+        let deep = (n - 1) / 2;
+        let word = "7".repeat(n - 2 * deep);
+        ["(".repeat(deep), word, ")".repeat(deep)].concat().into_bytes()
+    }),
+    ("spaces", |n| repeated(" ", n)),
+];
+
+/// A text again and again, with a digit last, so that no line ends in whitespace.
+fn repeated(text: &str, n: usize) -> Vec<u8> {
+    let mut line = text.repeat(n).into_bytes();
+    line.truncate(n - 1);
+    line.push(b'7');
+    line
 }
 
 /// Outcome words: sizes 8 to 64 in turn, some failed, some unknown, and one of least size.

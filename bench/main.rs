@@ -1,11 +1,13 @@
 //! Times the proved library and the Rust text in one process on the same inputs (docs/PERFORMANCE.md says how).
 //!
-//!     bench                     times every case and every program and prints the tables
+//!     bench                     times every case, every program and every sheet and prints the tables
 //!     bench --list              prints the cases' names
 //!     bench --once NAME SIDE    runs one case once on one side, for a count of instructions: `proved`, `checks` or `rust`
 //!     bench --programs          prints the programs' names, each after the number of its lines
 //!     bench --program NAME SIDE the same of one program: `call`, `table`, `checks`, `singles`, `rust` or `from_table`
 //!                               (programs.rs says what each is)
+//!     bench --sheets            prints the names of the lines whose sheets are filled
+//!     bench --sheet NAME SIDE   the same of one such line: `fill`, `checks` or `before` (sheets.rs says what each is)
 mod cases;
 #[path = "../oracle/driver/notation.rs"]
 mod notation;
@@ -15,6 +17,7 @@ mod programs;
 #[rustfmt::skip]
 #[allow(dead_code)]
 mod raw;
+mod sheets;
 
 use cases::Case;
 use raw::Order;
@@ -171,6 +174,7 @@ fn time_all() {
     let mut rows: Vec<_> = cases::all().into_iter().flat_map(both).collect();
     let mut selections = [1, 2, 4, 16, 64, 256, 1024, 4096].map(|count| (count, [f64::INFINITY; 2]));
     let mut programs = programs::rows();
+    let mut sheets: Vec<_> = sheets::all().into_iter().map(|f| (f, [f64::INFINITY; 3])).collect();
     for (case, lookup, _) in &rows {
         agree(case, *lookup, &oracle::unpack_table(&case.table));
     }
@@ -184,6 +188,9 @@ fn time_all() {
         for (count, least) in &mut selections {
             time_selection(*count, least);
         }
+        for (filled, least) in &mut sheets {
+            sheets::time(filled, least);
+        }
     }
     print_matching(&rows);
     println!("\n| outcomes | proved | Rust | Rust / proved |\n|---|---|---|---|");
@@ -192,6 +199,8 @@ fn time_all() {
     }
     println!("\nPrograms, nanoseconds a line.\n");
     programs::print(&programs);
+    println!("\nSheets, nanoseconds a line.\n");
+    sheets::print(&sheets);
 }
 
 /// The name without its way, and whether that is lookup.
@@ -253,8 +262,16 @@ fn main() {
             let (name, lookup) = way(name);
             programs::once(name, lookup, side);
         }
+        ["--sheets"] => {
+            for filled in sheets::all() {
+                println!("{}", filled.name);
+            }
+        }
+        ["--sheet", name, side] => sheets::once(name, side),
         _ => {
-            eprintln!("usage: bench [--list | --once NAME SIDE | --programs | --program NAME SIDE]");
+            eprintln!(
+                "usage: bench [--list | --once NAME SIDE | --programs | --program NAME SIDE | --sheets | --sheet NAME SIDE]"
+            );
             std::process::exit(2);
         }
     }

@@ -15,9 +15,9 @@
 #include <stdint.h>
 
 /* The version of this interface, and of the crate in rust/. */
-#define THOLDRIMASH_VERSION "0.4.0"
+#define THOLDRIMASH_VERSION "0.5.0"
 #define THOLDRIMASH_VERSION_MAJOR 0
-#define THOLDRIMASH_VERSION_MINOR 4
+#define THOLDRIMASH_VERSION_MINOR 5
 #define THOLDRIMASH_VERSION_PATCH 0
 
 #ifdef __cplusplus
@@ -25,13 +25,13 @@ extern "C" {
 #endif
 
 /* The numbers that the field `number` holds: of matching 0 to 9, of selection 0 and 10 to 14, of reading a table's text 0,
- * 15 and 16, of writing it 0, 2 and 16, of a program 0, 2 and 17. Beside each stand the fields that it returns. A program's
- * lines have numbers too, those of matching but for 2; they stand in its rows.
+ * 15 and 16, of writing it 0, 2 and 16, of a program 0, 2 and 17, of filling a sheet 0, 3 and 18. Beside each stand the
+ * fields that it returns. A program's lines have numbers too, those of matching but for 2; they stand in its rows.
  *
  * Matching judges table, line, sheet and budget in that order (2, 3, 4, 5); then comes whichever of 6, 7 and 8 the walk
  * meets first; then 1; then 9. Selection judges 10, 11, 12, 13, 14 in that order. Reading judges the text (15), writing the
  * table (2), and then either the room for its result (16). A program call judges the table (2), then the shape of what it is
- * lent (17), and then each line as matching does.
+ * lent (17), and then each line as matching does. Filling judges the line (3), then the sheet's length (18).
  */
 enum {
     THOLDRIMASH_MATCHED = 0,        /* visits; words: how many were written at the answer's start, the rest is unchanged */
@@ -58,10 +58,14 @@ enum {
     THOLDRIMASH_RESULT_TOO_LONG = 16, /* the table's words, or the text's bytes, are more than the room lent for them */
 
     THOLDRIMASH_PROGRAM_READ = 0, /* every line has its row; words: how many were written at the start of `answers` in all */
-    THOLDRIMASH_BAD_PROGRAM = 17  /* more than 256 lines, bad ends, or sheets, budgets or rows of the wrong length */
+    THOLDRIMASH_BAD_PROGRAM = 17, /* more than 256 lines, bad ends, or sheets, budgets or rows of the wrong length */
+
+    THOLDRIMASH_FILLED = 0,         /* words: how many bytes the sheet has, each of which was written */
+    THOLDRIMASH_BAD_SHEET_ROOM = 18 /* the sheet's length is not that of the line's sheet */
 };
 
-/* What matching returns; and what reading and writing a table's text and a program call return, where visits are 0.
+/* What matching returns; and what reading and writing a table's text, a program call and filling a sheet return, where
+ * visits are 0.
  *
  * A visit is an arrival at a place in a rule's pattern: at each part that the walk comes to, and at the pattern's end. A
  * record is taken for each argument that the walk goes on with and for each match that it completes, and none is given back
@@ -90,8 +94,10 @@ typedef struct {
  * line    0 to 120 bytes, each 9, 13 or 32, which are whitespace, or 33 to 126 except 59; the last is no whitespace.
  * sheet   2(n+1)^2 bytes for a line of n: the free ends, free(c, l) at c(n+1)+l, then in the same order the greedy decimal
  *         ends. 255 for none, else from c to l. Entries with c above l may hold anything.
- *         free(c, l) is where your expression parser ends if it begins at c and the line stops at l. greedy(c, l) is where
- *         the longest run of decimal digits from c ends, over whitespace before it, if there is a digit.
+ *         tholdrimash_fill_sheet makes one from the line itself. If your expressions are others than those it knows, make it
+ *         yourself: free(c, l) is where your expression parser ends if it begins at c and the line stops at l.
+ *         greedy(c, l) is where the longest run of decimal digits from c ends, over whitespace before it, if there is a
+ *         digit.
  *         BEWARE: c is the cursor, and it often stands on the whitespace before an expression: for `mov p` the sheet is
  *         asked for free(3, 5), not free(4, 5). Parse from every c, over leading whitespace; a sheet that knows only the
  *         first bytes of expressions passes every check and gives 1 for good lines.
@@ -110,6 +116,25 @@ tholdrimash_answer tholdrimash_lookup(const uint16_t *table, size_t table_len, c
                                       const uint8_t *sheet, size_t sheet_len, uint32_t budget, uint16_t *answer,
                                       size_t answer_len);
 
+/* Fills a line's sheet from the line itself: where its expressions end, by the grammar of delta expressions.
+ *
+ * line    as above.
+ * sheet   exactly 2(n+1)^2 bytes for a line of n. Each is written, whatever it held.
+ *
+ * A term is decimal digits, a name (a letter, then letters or digits), a minus before a term, or an expression in
+ * parentheses. An expression is terms joined by one of + - * / & |. Whitespace may stand before any token: a number, a name,
+ * a sign, a parenthesis. How deep it nests has no bound but the line's length.
+ *
+ * free(c, l) is the greatest end, up to l, of an expression that begins at c, over whitespace before it. It ends on its last
+ * token: whitespace after that, or an operator that no term follows, is outside. No byte from l on is looked at, so that the
+ * limit may cut a number or a name: `ab` under the limit 1 ends at 1. greedy(c, l) is the end of the longest run of decimal
+ * digits, of one at least, within the limit and over whitespace before it. 255 stands for none, and where c is above l.
+ *
+ * The number is 3 for a bad line, with the place that matching gives; then 18 for a sheet of any other length. The sheet is
+ * unchanged in both. Otherwise it is 0, and matching this line never finds the sheet bad (4).
+ */
+tholdrimash_answer tholdrimash_fill_sheet(const uint8_t *line, size_t line_len, uint8_t *sheet, size_t sheet_len);
+
 /* The lines of a program, up to 256, matched in one call: the full scan. The table is judged once, so a line costs what is
  * its own.
  *
@@ -118,6 +143,7 @@ tholdrimash_answer tholdrimash_lookup(const uint16_t *table, size_t table_len, c
  * ends     where each line ends in `text`: it begins where the line before it ends, the first one at 0. Equal ends are an
  *          empty line. What stands after the last end belongs to no line. There may be no line at all.
  * sheets   each line's sheet, one after another: 2(n+1)^2 bytes for a line of n up to 120, and none for a longer one.
+ *          tholdrimash_fill_sheet fills each where it stands; a bad line's may hold anything.
  * budgets  a budget for each line.
  * rows     two words for each line: its number, and how many answer words the lines before it have used.
  * answers  the words of the lines that matched, one line's after another's.

@@ -1,6 +1,7 @@
 /* Calls every function that include/tholdrimash.h declares: bench cases 1, 2, 10, 11 and 12 of document 01, each number
- * from 0 to 17 by its name, and the examples of docs/MANUAL.md in its order and notation. After a call it looks at all
- * that was lent and at what stands around it. It writes one line, and ends with 1 if a check failed.
+ * from 0 to 18 by its name, the examples of docs/MANUAL.md in its order and notation, and filled sheets beside a search
+ * for each span. After a call it looks at all that was lent and at what stands around it. It writes one line, and ends
+ * with 1 if a check failed.
  */
 #include "tholdrimash.h"
 
@@ -311,7 +312,8 @@ static void names(void) {
                                         THOLDRIMASH_TOO_LONG};
     static const uint32_t selection[] = {THOLDRIMASH_BAD_LIST, THOLDRIMASH_NONE_RESOLVED, THOLDRIMASH_NONE_KNOWN,
                                          THOLDRIMASH_TIED, THOLDRIMASH_NO_ROOM};
-    static const uint32_t later[] = {THOLDRIMASH_BAD_TEXT, THOLDRIMASH_RESULT_TOO_LONG, THOLDRIMASH_BAD_PROGRAM};
+    static const uint32_t later[] = {THOLDRIMASH_BAD_TEXT, THOLDRIMASH_RESULT_TOO_LONG, THOLDRIMASH_BAD_PROGRAM,
+                                     THOLDRIMASH_BAD_SHEET_ROOM};
     char version[16];
 
     for (uint32_t i = 0; i < LEN(matching); i++) check("names", "of matching", matching[i] == i);
@@ -320,8 +322,9 @@ static void names(void) {
     check("names", "of a table read", THOLDRIMASH_READ == 0);
     check("names", "of a table written", THOLDRIMASH_WRITTEN == 0);
     check("names", "of a program read", THOLDRIMASH_PROGRAM_READ == 0);
+    check("names", "of a sheet filled", THOLDRIMASH_FILLED == 0);
     for (uint32_t i = 0; i < LEN(later); i++)
-        check("names", "of text and programs", later[i] == LEN(matching) + LEN(selection) + i);
+        check("names", "of text, programs and sheets", later[i] == LEN(matching) + LEN(selection) + i);
     snprintf(version, sizeof version, "%d.%d.%d", THOLDRIMASH_VERSION_MAJOR, THOLDRIMASH_VERSION_MINOR,
              THOLDRIMASH_VERSION_PATCH);
     check("names", "version", strcmp(version, THOLDRIMASH_VERSION) == 0);
@@ -960,6 +963,266 @@ static void bad_programs(void) {
     both_refuse("a bad table", &p, THOLDRIMASH_BAD_TABLE);
 }
 
+/* The grammar of expressions once more, span by span: whether the bytes from c to before e are a whole term or a whole
+ * expression. Bytes from e on are not looked at. What a span is told is kept, so that nested parentheses are soon done.
+ */
+enum { LONGEST = 120, SIDE = LONGEST + 1, UNKNOWN = 0, YES = 1, NO = 2 };
+
+typedef struct {
+    const char *line;
+    char terms[SIDE][SIDE], expressions[SIDE][SIDE];
+} spans;
+
+static int one_of(const char *bytes, char byte) { return byte != 0 && strchr(bytes, byte) != NULL; }
+
+static int is_blank(char byte) { return one_of("\t\r ", byte); }
+
+static int is_number(char byte) { return one_of("0123456789", byte); }
+
+static int is_letter(char byte) { return one_of("ABCDEFGHIJKLMNOPQRSTUVWXYZabcdefghijklmnopqrstuvwxyz", byte); }
+
+static int is_word(const char *line, size_t c, size_t e) {
+    int name = is_letter(line[c]);
+    for (size_t i = c; i < e; i++)
+        if (!is_number(line[i]) && !(name && is_letter(line[i]))) return 0;
+    return 1;
+}
+
+static int is_expression(spans *s, size_t c, size_t e);
+
+/* An expression, then nothing but whitespace. */
+static int is_enclosed(spans *s, size_t c, size_t e) {
+    return c < e && (is_expression(s, c, e) || (is_blank(s->line[e - 1]) && is_enclosed(s, c, e - 1)));
+}
+
+static int find_term(spans *s, size_t c, size_t e);
+
+static int is_term(spans *s, size_t c, size_t e) {
+    char *told = &s->terms[c][e];
+    if (*told == UNKNOWN) *told = find_term(s, c, e) ? YES : NO;
+    return *told == YES;
+}
+
+static int find_term(spans *s, size_t c, size_t e) {
+    if (c == e) return 0;
+    if (is_blank(s->line[c]) || s->line[c] == '-') return is_term(s, c + 1, e);
+    if (s->line[c] == '(') return s->line[e - 1] == ')' && is_enclosed(s, c + 1, e - 1);
+    return is_word(s->line, c, e);
+}
+
+/* A term, whitespace, an operator, an expression: some operator is the first. */
+static int is_joined(spans *s, size_t c, size_t e) {
+    for (size_t p = c; p < e; p++) {
+        if (!one_of("+-*/&|", s->line[p]) || !is_expression(s, p + 1, e)) continue;
+        for (size_t m = p;; m--) {
+            if (is_term(s, c, m)) return 1;
+            if (m == c || !is_blank(s->line[m - 1])) break;
+        }
+    }
+    return 0;
+}
+
+static int is_expression(spans *s, size_t c, size_t e) {
+    char *told = &s->expressions[c][e];
+    if (*told == UNKNOWN) *told = is_term(s, c, e) || is_joined(s, c, e) ? YES : NO;
+    return *told == YES;
+}
+
+/* The greatest end that is found, or 255. */
+static uint8_t free_end(spans *s, size_t c, size_t l) {
+    for (size_t e = l; e > c; e--)
+        if (is_expression(s, c, e)) return (uint8_t)e;
+    return 255;
+}
+
+static uint8_t greedy_end(const char *line, size_t c, size_t l) {
+    while (c < l && is_blank(line[c])) c++;
+    size_t e = c;
+    while (e < l && is_number(line[e])) e++;
+    return e == c ? 255 : (uint8_t)e;
+}
+
+/* The sheet that a line is to have, and its length. */
+static size_t search(uint8_t *sheet, const char *line) {
+    static spans s;
+    size_t n = strlen(line), side = n + 1, half = side * side;
+    memset(&s, UNKNOWN, sizeof s);
+    s.line = line;
+    for (size_t c = 0; c < side; c++)
+        for (size_t l = 0; l < side; l++) {
+            sheet[c * side + l] = c > l ? 255 : free_end(&s, c, l);
+            sheet[half + c * side + l] = c > l ? 255 : greedy_end(line, c, l);
+        }
+    return 2 * half;
+}
+
+/* One call fills the sheet as the search does, and matching takes it. */
+static void fills(const char *bytes) {
+    static uint8_t whole[2 * SIDE * SIDE];
+    char name[160];
+    size_t n = strlen(bytes), len = search(whole, bytes);
+    uint16_t words[64];
+    lent line = lend(bytes, n), sheet = lend(NULL, len);
+
+    snprintf(name, sizeof name, "sheet of %s", bytes);
+    tholdrimash_answer told = tholdrimash_fill_sheet(at(line), n, at(sheet), len);
+    check(name, "number", told.number == THOLDRIMASH_FILLED);
+    check(name, "visits and place", told.visits == 0 && told.place == 0);
+    check(name, "words", told.words == len);
+    check(name, "line", unchanged(line));
+    check(name, "sheet", holds(sheet, whole, len));
+    told = tholdrimash_match(t, LEN(t), at(line), n, at(sheet), len, ALL, words, LEN(words));
+    check(name, "matched on", told.number == THOLDRIMASH_MATCHED || told.number == THOLDRIMASH_NO_MATCH);
+
+    give_back(line);
+    give_back(sheet);
+}
+
+/* One call is refused by this number and place, with a sheet of so many bytes, and leaves it as it is. */
+static void fills_not(const char *name, const char *bytes, size_t len, uint32_t number, uint32_t place) {
+    size_t n = strlen(bytes);
+    lent line = lend(bytes, n), sheet = lend(NULL, len);
+
+    tholdrimash_answer told = tholdrimash_fill_sheet(at(line), n, at(sheet), len);
+    check(name, "number", told.number == number);
+    check(name, "visits and words", told.visits == 0 && told.words == 0);
+    check(name, "place", told.place == place);
+    check(name, "line and sheet", unchanged(line) && unchanged(sheet));
+
+    give_back(line);
+    give_back(sheet);
+}
+
+/* A byte so many times, then a text; a line of at most 121 bytes. */
+static const char *after_run(char byte, size_t count, const char *text) {
+    static char line[LONGEST + 2];
+    memset(line, byte, count);
+    strcpy(line + count, text);
+    return line;
+}
+
+/* A text again and again, up to so many bytes, the last of which is no whitespace. */
+static const char *over_and_over(const char *text, size_t n) {
+    static char line[LONGEST + 1];
+    for (size_t i = 0; i < n; i++) line[i] = text[i % strlen(text)];
+    if (is_blank(line[n - 1])) line[n - 1] = '1';
+    line[n] = 0;
+    return line;
+}
+
+/* Every line of up to four bytes of these, but those that end in whitespace. */
+static void short_lines(void) {
+    static const char bytes[] = "1a-+( )";
+    char line[5] = {0};
+    for (size_t n = 0, count = 1; n <= 4; n++, count *= sizeof bytes - 1)
+        for (size_t i = 0; i < count; i++) {
+            for (size_t at = 0, left = i; at < n; at++, left /= sizeof bytes - 1)
+                line[at] = bytes[left % (sizeof bytes - 1)];
+            if (n == 0 || !is_blank(line[n - 1])) fills(line);
+        }
+}
+
+/* Fills each of these lines; a semicolon, which no line has, parts them. */
+static void fill_each(const char *lines) {
+    char line[LONGEST + 1];
+    for (size_t n = 0; *lines; lines += n + (lines[n] == ';')) {
+        n = strcspn(lines, ";");
+        memcpy(line, lines, n);
+        line[n] = 0;
+        fills(line);
+    }
+}
+
+static void filled_sheets(void) {
+    fill_each("mov 7;mov p;delta 5 + stem*2, (left - 3);ab;12ab;a1b2 3;9x;x9y-8z;- 1;1 - -1;--(a)-1;1--2;1+-2;1-+2");
+    fill_each("1+;1 +;+1;*1;1**2;a&b|c;-;(-);-(;();(1;(1));( 1 )+2;(1+2)*(3-4)/5&6|7;(1+2)x(3);((1)+(2))*3;(1+)2");
+    fill_each("(1 2);((((1)));1+(2;1+(2*;a(1);1(2);1 2;a+b c+d;1.5;a_b;$1;#-1;[1];{1};1,2");
+    fill_each("a\tb;1\t+\r2;\t\r 1;\r12 ,;(\t1\r);\t-\t1;-\r(\r-\ra\r)\r*\r1");
+    short_lines();
+
+    /* Each byte of a line as a term, in a number, in a name, and between terms. */
+    for (char byte = 33; byte < 127; byte++) {
+        if (byte == ';') continue;
+        const char around[][4] = {{byte, 0}, {'1', byte, '2', 0}, {'a', byte, 'b', 0}, {'(', byte, ')', 0}};
+        for (size_t i = 0; i < LEN(around); i++) fills(around[i]);
+    }
+
+    /* As deep and as long as a line goes. */
+    for (size_t n = LONGEST - 1; n <= LONGEST; n++) {
+        fills(after_run('-', n - 1, "1"));
+        fills(after_run('1', n, ""));
+        fills(after_run('a', n, ""));
+        fills(after_run(' ', n - 1, "1"));
+        fills(after_run('\t', n - 2, "\r1"));
+        fills(after_run('(', n, ""));
+        fills(over_and_over("1+", n));
+        fills(over_and_over("a|", n));
+        fills(over_and_over("(1)*", n));
+        fills(over_and_over("-(a + 12)\t&\r", n));
+        fills(over_and_over("delta 5 + stem*2, (left - 3)", n));
+    }
+    char closers[LONGEST] = "1";
+    for (size_t depth = 1; depth < 60; depth++) {
+        strcat(closers, ")");
+        if (depth > 14) fills(after_run('(', depth, closers));
+    }
+    fills(after_run('(', 60, closers));
+}
+
+static void unfilled_sheets(void) {
+    static const struct {
+        const char *line;
+        uint32_t place;
+    } bad[] = {{"mov;p", 3},  {"1\n2", 1}, {"1 ", 1},      {"\t", 0}, {"a\r", 1},
+               {"1+\177", 2}, {"\001", 0}, {"(\3761)", 1}, {"1; ", 1}};
+    char name[64];
+
+    /* The line is judged before the sheet's length. */
+    for (size_t i = 0; i < LEN(bad); i++) {
+        size_t side = strlen(bad[i].line) + 1;
+        for (size_t more = 0; more < 3; more++)
+            fills_not("a bad line", bad[i].line, 2 * side * side - 1 + more, THOLDRIMASH_BAD_LINE, bad[i].place);
+        fills_not("a bad line, no sheet", bad[i].line, 0, THOLDRIMASH_BAD_LINE, bad[i].place);
+    }
+    const char *longer = after_run('1', LONGEST + 1, "");
+    fills_not("121 bytes", longer, 2 * 122 * 122, THOLDRIMASH_BAD_LINE, 120);
+    fills_not("121 bytes, the longest sheet", longer, 2 * 121 * 121, THOLDRIMASH_BAD_LINE, 120);
+    fills_not("121 bytes, no sheet", longer, 0, THOLDRIMASH_BAD_LINE, 120);
+
+    static const size_t lengths[] = {0, 1, 2, 5, 119, 120};
+    for (size_t i = 0; i < LEN(lengths); i++) {
+        size_t n = lengths[i], half = (n + 1) * (n + 1), len = 2 * half;
+        const size_t wrong[] = {0, 1, len - 1, len + 1, half, 2 * n * n, 2 * (n + 2) * (n + 2), 2 * len};
+        snprintf(name, sizeof name, "a sheet of the wrong length for %zu bytes", n);
+        for (size_t j = 0; j < LEN(wrong); j++)
+            fills_not(name, after_run('1', n, ""), wrong[j], THOLDRIMASH_BAD_SHEET_ROOM, 0);
+    }
+}
+
+/* Matching by T on sheets that were filled: `mov 7` alone, and a program whose sheets are filled where they stand. */
+static void matched_when_filled(void) {
+    static const uint16_t seven[] = {MOV_7}, words[] = {MOV_7, MOV_P, 1, 3, 0, 0, 1, 0, 4, 11, MOV_Q};
+    static const uint32_t rows[] = {0, 0, 0, 8, 0, 19, 3, 27, 1, 27, 0, 27};
+    static const char *const lines[] = {"mov 7", "mov p", "mov (p - 3)", "mov;", "mov 7,", "mov\rq"};
+    static program p;
+    uint8_t sheet[72];
+
+    tholdrimash_answer told = tholdrimash_fill_sheet((const uint8_t *)"mov 7", 5, sheet, sizeof sheet);
+    check("mov 7", "filled", told.number == THOLDRIMASH_FILLED);
+    both("mov 7, its sheet filled", (call){t, LEN(t), "mov 7", sheet, sizeof sheet, ALL, LEN(seven)},
+         (tholdrimash_answer){.number = THOLDRIMASH_MATCHED, .visits = 13, .words = LEN(seven)}, seven);
+
+    begin(&p, LEN(words));
+    for (size_t i = 0; i < LEN(lines); i++) {
+        size_t before = p.sheets_len;
+        add_line(&p, lines[i], "");
+        told = tholdrimash_fill_sheet((const uint8_t *)lines[i], strlen(lines[i]), p.sheets + before,
+                                      p.sheets_len - before);
+        check(lines[i], "filled", told.number == (i == 3 ? THOLDRIMASH_BAD_LINE : THOLDRIMASH_FILLED));
+    }
+    both_run("a program on filled sheets", &p, rows, words, LEN(words));
+}
+
 int main(void) {
     names();
     on_t();
@@ -983,6 +1246,9 @@ int main(void) {
     odd_lines();
     most_lines();
     bad_programs();
+    filled_sheets();
+    unfilled_sheets();
+    matched_when_filled();
     printf("interface.c: %u checks, %u failed\n", checks, failed);
     return failed != 0;
 }

@@ -1,5 +1,6 @@
-//! Inputs: tables, lines and sheets made from a seed, short ones exhaustively, programs of several lines, and damaged copies
-//! of good ones.
+//! Inputs: tables, lines and sheets made from a seed, short ones exhaustively, programs of several lines, lines of expressions,
+//! and damaged copies of good ones.
+use crate::grammar;
 use crate::model::{self, Call, ProgramCall, WHITE};
 use crate::random::Random;
 
@@ -186,22 +187,26 @@ fn change_case(random: &mut Random, byte: u8) -> u8 {
     }
 }
 
+/// How the bytes of an expression are picked.
+type Pick<'a> = &'a dyn Fn(&mut Random) -> Vec<u8>;
+
+fn some_bytes(random: &mut Random, alphabet: &[u8]) -> Vec<u8> {
+    let count = *random.pick(&[1, 1, 1, 2, 3]);
+    (0..count).map(|_| *random.pick(alphabet)).collect()
+}
+
 /// A line that the rule might match.
-fn expand(random: &mut Random, rulesets: &[(u16, Vec<Rule>)], rule: &Rule, alphabet: &[u8], depth: usize) -> Vec<u8> {
+fn expand(random: &mut Random, rulesets: &[(u16, Vec<Rule>)], rule: &Rule, expression: Pick, depth: usize) -> Vec<u8> {
     let mut line = Vec::new();
     for part in rule {
         match part {
             256 => line.extend(*random.pick(&[&b" "[..], b" ", b"\t", b"\r", b"  ", b" \r", b""])),
-            257 => {
-                for _ in 0..*random.pick(&[1, 1, 1, 2, 3]) {
-                    line.push(*random.pick(alphabet));
-                }
-            }
+            257 => line.extend(expression(random)),
             512.. => {
                 let rules = &rulesets[*part as usize - 512].1;
                 if !rules.is_empty() && depth < 4 {
                     let inner = random.pick(rules).clone();
-                    line.extend(expand(random, rulesets, &inner, alphabet, depth + 1));
+                    line.extend(expand(random, rulesets, &inner, expression, depth + 1));
                 }
             }
             _ => {
@@ -441,7 +446,7 @@ pub fn make(random: &mut Random) -> Case {
     let with_white = with_white(alphabet);
     if !tops.is_empty() && random.chance(750) {
         let rule = random.pick(&tops).clone();
-        line = expand(random, &rulesets, &rule, alphabet, 0);
+        line = expand(random, &rulesets, &rule, &|random| some_bytes(random, alphabet), 0);
         for _ in 0..*random.pick(&[0, 0, 0, 0, 1, 2]) {
             let at = random.between(0, line.len());
             let until = line.len().min(at + random.below(2));
@@ -496,7 +501,7 @@ fn another_line(random: &mut Random, case: &Case) -> Vec<u8> {
         (0..random.between(0, 8)).map(|_| *random.pick(&with_white)).collect()
     } else {
         let rule = (*random.pick(&tops)).clone();
-        expand(random, &case.rulesets, &rule, alphabet, 0)
+        expand(random, &case.rulesets, &rule, &|random| some_bytes(random, alphabet), 0)
     };
     if random.chance(200) {
         let at = random.between(0, line.len());
@@ -570,6 +575,160 @@ pub fn damaged_program(random: &mut Random, good: &ProgramCall) -> ProgramCall {
         call = damaged_program(random, &call);
     }
     call
+}
+
+// Lines of expressions.
+
+/// Thousandths: of tokens with whitespace before them, of terms in parentheses and after a minus, and of those that an operator
+/// follows.
+#[derive(Clone, Copy)]
+struct Manner {
+    white: usize,
+    inside: usize,
+    minus: usize,
+    joined: usize,
+}
+
+const MANNERS: [Manner; 6] = [
+    Manner {
+        white: 150,
+        inside: 200,
+        minus: 150,
+        joined: 500,
+    },
+    Manner {
+        white: 0,
+        inside: 0,
+        minus: 50,
+        joined: 980,
+    },
+    Manner {
+        white: 20,
+        inside: 970,
+        minus: 10,
+        joined: 30,
+    },
+    Manner {
+        white: 50,
+        inside: 20,
+        minus: 960,
+        joined: 100,
+    },
+    Manner {
+        white: 700,
+        inside: 150,
+        minus: 100,
+        joined: 700,
+    },
+    Manner {
+        white: 30,
+        inside: 450,
+        minus: 50,
+        joined: 600,
+    },
+];
+
+const WORDS: [&[u8]; 10] = [b"1", b"0", b"42", b"907", b"a", b"Z", b"x1", b"stem", b"A9z", b"left"];
+
+/// Where an expression goes no deeper, so that what it has opened finds room to be closed.
+const LATE: usize = 70;
+
+fn put_white(random: &mut Random, line: &mut Vec<u8>, manner: Manner) {
+    while random.chance(manner.white) {
+        line.push(*random.pick(&WHITE));
+    }
+}
+
+fn put_term(random: &mut Random, line: &mut Vec<u8>, manner: Manner) {
+    put_white(random, line, manner);
+    let x = if line.len() < LATE { random.below(1000) } else { 1000 };
+    if x < manner.inside {
+        line.push(b'(');
+        put_expression(random, line, manner);
+        put_white(random, line, manner);
+        line.push(b')');
+    } else if x < manner.inside + manner.minus {
+        line.push(b'-');
+        put_term(random, line, manner);
+    } else {
+        line.extend(*random.pick(&WORDS));
+    }
+}
+
+fn put_expression(random: &mut Random, line: &mut Vec<u8>, manner: Manner) {
+    put_term(random, line, manner);
+    while line.len() < LATE && random.chance(manner.joined) {
+        put_white(random, line, manner);
+        line.push(*random.pick(b"+-*/&|"));
+        put_term(random, line, manner);
+    }
+}
+
+/// A short expression.
+fn expression(random: &mut Random) -> Vec<u8> {
+    let mut line = Vec::new();
+    let manner = Manner {
+        joined: 300,
+        ..MANNERS[0]
+    };
+    put_expression(random, &mut line, manner);
+    line
+}
+
+/// Bytes that expressions have, and those next to them: `@` and `[` by the upper case, `` ` `` and `{` by the lower, `/` and
+/// `:` by the digits, signs that are no operators.
+const NEAR: &[u8] = b"09azAZ1a+-*/&|()() \t\r@[`{}:,.'^%_$#!=<>~";
+
+/// A good line with expressions: some one after another, some with bytes changed, some of bytes alone.
+pub fn expression_line(random: &mut Random) -> Vec<u8> {
+    let most = *random.pick(&[10, 30, 120, 120]);
+    let mut line = Vec::new();
+    if random.chance(150) {
+        let alphabet: &[u8] = *random.pick(&[&b"1a-+( )"[..], b"1((()))-", b"1a \t\r", b"12ab+", NEAR]);
+        line.extend((0..random.between(0, most)).map(|_| *random.pick(alphabet)));
+    } else {
+        let manner = *random.pick(&MANNERS);
+        for _ in 0..*random.pick(&[1, 1, 1, 2, 4]) {
+            put_expression(random, &mut line, manner);
+            line.extend(*random.pick(&[&b""[..], b"", b",", b" ", b", ", b" x", b"+"]));
+        }
+    }
+    for _ in 0..*random.pick(&[0, 0, 1, 1, 2, 4]) {
+        let at = random.between(0, line.len());
+        let until = line.len().min(at + random.below(2));
+        let with = (0..random.below(2)).map(|_| *random.pick(NEAR)).collect::<Vec<u8>>();
+        line.splice(at..until, with);
+    }
+    trimmed(line, most)
+}
+
+/// May make a line a bad one.
+pub fn damage_line(random: &mut Random, line: &mut Vec<u8>) {
+    match random.below(4) {
+        0 if !line.is_empty() => {
+            let at = random.below(line.len());
+            line[at] = *random.pick(&[0, 8, 9, 10, 12, 13, 14, 31, 32, 33, 58, 59, 60, 126, 127, 128, 255]);
+        }
+        1 => line.push(*random.pick(b" \t\r1;")),
+        2 => line.resize(*random.pick(&[119, 120, 121, 122, 200]), b'1'),
+        _ => {}
+    }
+}
+
+/// Another line for a case's table, where expressions are those of the grammar, and its filled sheet.
+pub fn filled(random: &mut Random, case: &Case) -> Case {
+    let tops = case.rulesets.iter().filter(|(flag, _)| *flag == 0);
+    let tops: Vec<&Rule> = tops.flat_map(|(_, rules)| rules).collect();
+    let line = if tops.is_empty() {
+        expression(random)
+    } else {
+        let rule = (*random.pick(&tops)).clone();
+        expand(random, &case.rulesets, &rule, &expression, 0)
+    };
+    let line = trimmed(line, *random.pick(&[20, 40]));
+    let sheet = grammar::sheet(&line);
+    let rulesets = case.rulesets.clone();
+    Case { rulesets, line, sheet }
 }
 
 // Short cases, exhaustively.

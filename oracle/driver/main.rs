@@ -1,13 +1,16 @@
 //! Compares the proved code with the Rust, in one process: walker moves and cuts, prefix queries, match calls by scan and by
-//! lookup, programs of many lines, and selection. What the Rust does not decide is held to a third reading of documents 01
-//! and 02 (model.rs).
+//! lookup, programs of many lines, filled sheets, and selection. What the Rust does not decide is held to a third reading of
+//! documents 01 and 02 (model.rs, and grammar.rs for expressions).
 //!
-//!     compare [--cases N] [--seed S] [--only walker|prefixes|matching|programs|selection] [--quick] [--record FOLDER]
+//!     compare [--cases N] [--seed S] [--only walker|prefixes|matching|programs|expressions|selection] [--quick]
+//!             [--record FOLDER]
 //!
 //! `--cases` is how many random cases of the seed are made; `--quick` leaves out the exhaustive short ones. `--record` writes
-//! the recorded sample (record.rs) and compares nothing. The last line is 'N passed, M failed', where each of the five is one
+//! the recorded sample (record.rs) and compares nothing. The last line is 'N passed, M failed', where each of the six is one
 //! test, which passes if nothing differs. Ends with 1 if anything differs, 2 if it is used wrongly.
 mod cases;
+mod expressions;
+mod grammar;
 mod ground;
 mod matching;
 mod model;
@@ -33,11 +36,12 @@ mod ways;
 use report::Report;
 
 /// What can be compared alone: a name, and what compares it.
-const PARTS: [(&str, fn(&mut Report, &Args)); 5] = [
+const PARTS: [(&str, fn(&mut Report, &Args)); 6] = [
     ("walker", walker),
     ("prefixes", prefixes),
     ("matching", matching),
     ("programs", programs),
+    ("expressions", expressions),
     ("selection", selection),
 ];
 
@@ -101,6 +105,15 @@ fn programs(report: &mut Report, args: &Args) {
     programs::random(report, args.seed, args.cases / 5);
 }
 
+fn expressions(report: &mut Report, args: &Args) {
+    expressions::numbers(report);
+    if !args.quick {
+        expressions::all_bytes(report);
+        expressions::short(report);
+    }
+    expressions::random(report, args.seed, args.cases / 10);
+}
+
 fn selection(report: &mut Report, args: &Args) {
     selection::numbers(report);
     if !args.quick {
@@ -112,8 +125,8 @@ fn selection(report: &mut Report, args: &Args) {
 fn main() {
     let Some(args) = args() else {
         eprintln!(
-            "usage: compare [--cases N] [--seed S] [--only walker|prefixes|matching|programs|selection] [--quick] \
-             [--record FOLDER]"
+            "usage: compare [--cases N] [--seed S] [--only walker|prefixes|matching|programs|expressions|selection] \
+             [--quick] [--record FOLDER]"
         );
         std::process::exit(2);
     };

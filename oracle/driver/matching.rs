@@ -176,6 +176,13 @@ pub fn random(report: &mut Report, seed: u64, cases: u64) {
                 both(report, &call);
             }
         }
+        // Drawn last: what is drawn before it stays the same for a seed.
+        if !crowd && random.chance(250) {
+            let call = cases::filled(random, &case).call(None);
+            let [scan, _] = both(report, &call);
+            report.see("lines with filled sheets", true);
+            report.see("  matched", scan.number == 0);
+        }
     }
 }
 

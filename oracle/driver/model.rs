@@ -184,7 +184,7 @@ pub fn read_table(words: &[u16]) -> Option<Table> {
 }
 
 /// The place that number 3 returns for a bad line.
-fn bad_line(line: &[u8]) -> Option<u32> {
+pub fn bad_line(line: &[u8]) -> Option<u32> {
     let allowed = |b: &u8| is_white(*b) || ((33..=126).contains(b) && *b != 59);
     if line.len() > LONGEST_LINE {
         return Some(120);
@@ -198,7 +198,7 @@ fn bad_line(line: &[u8]) -> Option<u32> {
     }
 }
 
-fn good_sheet(sheet: &[u8], n: usize) -> bool {
+pub fn good_sheet(sheet: &[u8], n: usize) -> bool {
     let side = n + 1;
     let good = |half: usize, c: usize, l: usize| {
         let end = sheet[half * side * side + c * side + l];

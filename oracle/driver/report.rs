@@ -12,9 +12,14 @@ pub struct Report {
 impl Report {
     /// Counts something seen, if it was.
     pub fn see(&mut self, what: &'static str, seen: bool) {
+        self.add(what, seen as usize);
+    }
+
+    /// Counts something seen so many times.
+    pub fn add(&mut self, what: &'static str, times: usize) {
         match self.counts.iter_mut().find(|(name, _)| *name == what) {
-            Some((_, count)) => *count += seen as u64,
-            None => self.counts.push((what, seen as u64)),
+            Some((_, count)) => *count += times as u64,
+            None => self.counts.push((what, times as u64)),
         }
     }
 

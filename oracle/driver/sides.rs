@@ -1,5 +1,6 @@
 //! The two sides of the comparison, each behind safe functions: the proved code, by its C interface and by the C functions
 //! of the crate `probe`, and the Rust, by liboracle.so. All in this process.
+use crate::grammar::Filled;
 use crate::model::{Answer, Call, Chosen, ProgramAnswer, ProgramCall};
 use crate::raw::{self, Order, Program};
 use crate::shown::{self, Seen, PANICKED};
@@ -9,6 +10,9 @@ const UNTOUCHED: u16 = 65535;
 
 /// The same of rows.
 const UNTOUCHED_ROW: u32 = u32::MAX;
+
+/// The same of sheets: no entry is this.
+const UNTOUCHED_ENTRY: u8 = 165;
 
 /// As many words of that on either side of the buffer, which no call may touch.
 const AROUND: usize = 8;
@@ -150,6 +154,24 @@ pub fn proved_program(call: &ProgramCall, lookup: bool) -> (ProgramAnswer, bool)
         answers,
     };
     (answer, answers_left && rows_left)
+}
+
+/// What a call that fills a sheet of so many bytes returned, and whether it left alone what it had to: the bytes around the
+/// sheet, and the sheet on a refusal.
+pub fn proved_fill(line: &[u8], room: usize) -> (Filled, bool) {
+    let (told, sheet, left_alone) = lend(UNTOUCHED_ENTRY, room, |sheet| {
+        let told = raw::fill_sheet(line, sheet);
+        let written = if told.number == 0 { room } else { 0 };
+        (told, written)
+    });
+    let filled = Filled {
+        number: told.number,
+        visits: told.visits,
+        words: told.words,
+        place: told.place,
+        sheet,
+    };
+    (filled, left_alone)
 }
 
 // Every unsafe call below lends slices by their own pointers and lengths.

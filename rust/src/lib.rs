@@ -11,6 +11,8 @@
 //!
 //! - [`read_table`] reads a rule table from text, one ruleset or rule a line, and [`write_table`]
 //!   writes it.
+//! - [`sheet_of`] and [`fill_sheet`] fill a line's sheet from the line itself: where its expressions
+//!   end.
 //! - [`match_line`] finds the readings with the greatest exact count, [`lookup_line`] the same ones
 //!   by prefix.
 //! - [`Readings::read`] reads the words that they write as trees.
@@ -34,7 +36,7 @@
 //! within, the first only three:
 //!
 //! ```
-//! use tholdrimash::{match_line, read_table, Kind, Readings};
+//! use tholdrimash::{match_line, read_table, sheet_of, Kind, Readings};
 //!
 //! # fn main() -> Result<(), Box<dyn std::error::Error>> {
 //! let text = b"ruleset\ttop\n\
@@ -49,8 +51,7 @@
 //! assert_eq!(table[..5], [2, 4, 12, 0, 1]); // rulesets, rules, parts; the first is a top one
 //!
 //! let line = b"mov p";
-//! let mut sheet = [255; 2 * 6 * 6]; // 2(n+1)^2 bytes for a line of n
-//! sheet[3 * 6 + 5] = 5; // a free parse from 3, on the space, under the limit 5 ends at 5
+//! let sheet = sheet_of(line)?; // where expressions end in it
 //! let mut answer = [0; 64];
 //!
 //! let words = match_line(table, line, &sheet, 1_000, &mut answer).written()?;
@@ -69,14 +70,15 @@
 //! # }
 //! ```
 //!
-//! The sheet says where the caller's own expressions end, from each start and under each limit. It
-//! is asked at the cursor, which may stand on the whitespace before an expression: [`match_line`]
-//! says more.
+//! The sheet says where expressions end, from each start and under each limit. [`fill_sheet`] has
+//! the grammar that [`sheet_of`] goes by. Where expressions are others, the caller makes a sheet of
+//! them: [`match_line`](match_line#a-sheet-of-ones-own) says how.
 //!
 //! The crate links libtholdrimash.a, for x86-64 Linux. `rt staticlib tholdrimash` writes it, and
 //! THOLDRIMASH_LIB names its folder where that is not the repository's target/staticlib.
 #![deny(missing_docs, unsafe_code)]
 
+mod expressions;
 mod listing;
 mod matcher;
 mod program;
@@ -85,6 +87,7 @@ mod raw;
 mod readings;
 mod resolver;
 
+pub use expressions::{fill_sheet, sheet_of, FillAnswer};
 pub use listing::{read_table, write_table, ReadAnswer, WriteAnswer, MOST_BYTES, MOST_WORDS};
 pub use matcher::{lookup_line, match_line, Answer};
 pub use program::{

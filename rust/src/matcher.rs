@@ -23,8 +23,8 @@ pub enum Answer {
         /// Words written, for [`Readings::read`](crate::Readings::read).
         words: usize,
     },
-    /// 1: the line has no reading. If it should have one, is the sheet filled where whitespace
-    /// stands before an expression? See [`match_line`].
+    /// 1: the line has no reading. If it should have one, and the sheet is the caller's own: is that
+    /// filled where whitespace stands before an expression? See [`match_line`].
     NoMatch {
         /// Visits made.
         visits: u32,
@@ -145,28 +145,43 @@ impl Error for Answer {}
 ///   last is no whitespace.
 /// - `sheet`: 2(n+1)^2 bytes for a line of n: the free ends, free(c, l) at c(n+1)+l, then in the
 ///   same order the greedy decimal ends. 255 is none, else the end is from c to l. Entries with c
-///   above l may hold anything. free(c, l) is where the caller's expression parser ends if it
-///   begins at c and the line stops at l. greedy(c, l) is where the longest run of decimal digits
-///   from c ends, over whitespace before it, if there is a digit.
+///   above l may hold anything. [`sheet_of`](crate::sheet_of) makes one from the line itself.
 /// - `budget`: how many visits the walk may make, 1 to 1,000,000. It bounds the time of a call, and
 ///   changes no answer but to 6: take 1,000,000 if unsure.
 /// - `answer`: where the readings go. [`Readings`](crate::Readings) says how they are written.
 ///
 /// The table, the line, the sheet and the budget are checked in this order.
 ///
-/// # The sheet is asked at the cursor
+/// ```
+/// use tholdrimash::{match_line, sheet_of, Answer};
+///
+/// # fn main() -> Result<(), Box<dyn std::error::Error>> {
+/// let mov = [1, 1, 5, 0, 0, 0, 5, 109, 111, 118, 256, 257]; // m, o, v, whitespace, an expression
+/// let mut answer = [0; 8];
+///
+/// let told = match_line(&mov, b"mov 7", &sheet_of(b"mov 7")?, 100, &mut answer);
+/// assert_eq!(told, Answer::Matched { visits: 6, words: 8 });
+/// assert_eq!(answer, [1, 3, 0, 0, 1, 0, 4, 5]); // the argument is the 7 alone
+/// # Ok(())
+/// # }
+/// ```
+///
+/// # A sheet of one's own
+///
+/// Where expressions are others than [`fill_sheet`](crate::fill_sheet) knows, the caller makes the
+/// sheet. free(c, l) is where the caller's expression parser ends if it begins at c and the line
+/// stops at l. greedy(c, l) is where the longest run of decimal digits from c ends, over whitespace
+/// before it, if there is a digit.
 ///
 /// The start c is the cursor, and it often stands on the whitespace before an expression: a
 /// whitespace part consumes nothing, and an exact part leaves the cursor right behind its byte. A
 /// sheet that knows only the first bytes of expressions passes every check, and good lines get no
-/// match. So parse from every c, over whitespace before the expression:
+/// match. So parse from every c, over whitespace before the expression. With the same table:
 ///
 /// ```
-/// use tholdrimash::{match_line, Answer};
-///
-/// let mov = [1, 1, 5, 0, 0, 0, 5, 109, 111, 118, 256, 257]; // m, o, v, whitespace, an expression
-/// let mut answer = [0; 8];
-///
+/// # use tholdrimash::{match_line, Answer};
+/// # let mov = [1, 1, 5, 0, 0, 0, 5, 109, 111, 118, 256, 257];
+/// # let mut answer = [0; 8];
 /// let mut sheet = [255; 2 * 6 * 6];
 /// sheet[4 * 6 + 5] = 5; // free(4, 5) = 5: from the 7 on. It is not asked for.
 /// let told = match_line(&mov, b"mov 7", &sheet, 100, &mut answer);
@@ -175,20 +190,19 @@ impl Error for Answer {}
 /// sheet[3 * 6 + 5] = 5; // free(3, 5) = 5: from the space on.
 /// let told = match_line(&mov, b"mov 7", &sheet, 100, &mut answer);
 /// assert_eq!(told, Answer::Matched { visits: 6, words: 8 });
-/// assert_eq!(answer, [1, 3, 0, 0, 1, 0, 4, 5]); // the argument is the 7 alone
 /// ```
 ///
 /// # Refusals
 ///
 /// ```
-/// use tholdrimash::{match_line, Answer};
+/// use tholdrimash::{match_line, sheet_of, Answer};
 ///
 /// let nop = [1, 1, 3, 0, 0, 0, 3, 110, 111, 112]; // one rule: n, o, p
-/// let sheet = [255; 2 * 4 * 4]; // no expression anywhere
+/// let sheet = sheet_of(b"nop").expect("a good line");
 ///
 /// // A buffer that is too short stays as it is. The answer says what it needs.
 /// let mut short = [7; 2];
-/// let told = match_line(&nop, b"NOP", &sheet, 100, &mut short);
+/// let told = match_line(&nop, b"nop", &sheet, 100, &mut short);
 /// assert_eq!(told, Answer::TooLong { visits: 4, words: 5 });
 /// assert_eq!(short, [7, 7]);
 ///
@@ -201,7 +215,7 @@ impl Error for Answer {}
 /// assert_eq!(match_line(&[], b"nop", &sheet, 100, &mut short), Answer::BadTable);
 ///
 /// // Take off the line end and the whitespace before it: of `nop\r\n`, both bytes.
-/// let told = match_line(&nop, b"nop\r", &[255; 2 * 5 * 5], 100, &mut short);
+/// let told = match_line(&nop, b"nop\r", &sheet, 100, &mut short);
 /// assert_eq!(told, Answer::BadLine { place: 3 });
 /// ```
 pub fn match_line(
@@ -221,10 +235,10 @@ pub fn match_line(
 /// the table's order.
 ///
 /// ```
-/// use tholdrimash::{lookup_line, match_line, Answer};
+/// use tholdrimash::{lookup_line, match_line, sheet_of, Answer};
 ///
 /// let nop = [1, 1, 3, 0, 0, 0, 3, 110, 111, 112];
-/// let sheet = [255; 2 * 4 * 4];
+/// let sheet = sheet_of(b"mov").expect("a good line");
 ///
 /// let scan = match_line(&nop, b"mov", &sheet, 100, &mut []);
 /// assert_eq!(scan, Answer::NoMatch { visits: 1 });

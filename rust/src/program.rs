@@ -14,8 +14,8 @@ pub const MOST_LINES: usize = 256;
 /// The longest line that has a sheet.
 const LONGEST: usize = 120;
 
-/// How many bytes of a program's sheets are those of a line of `n` bytes: 2(n+1)^2 up to 120, and
-/// none for a longer line.
+/// How many bytes the sheet of a line of `n` bytes has, alone or in a program: 2(n+1)^2 up to 120,
+/// and none for a longer line.
 ///
 /// ```
 /// use tholdrimash::sheet_len;
@@ -261,7 +261,7 @@ impl ExactSizeIterator for LineAnswers<'_> {}
 ///
 /// - `table`: as for [`match_line`](crate::match_line).
 /// - `program`: the lines' text, ends, sheets and budgets; [`sheet_len`] says how long each line's
-///   sheet is.
+///   sheet is, and [`fill_sheet`](crate::fill_sheet) fills it where it stands.
 /// - `rows`: two words for each line, exactly: its number, and the answer words used before it.
 /// - `answers`: where the lines' words go, one line's after another's.
 ///
@@ -272,17 +272,20 @@ impl ExactSizeIterator for LineAnswers<'_> {}
 /// nothing.
 ///
 /// ```
-/// use tholdrimash::{match_program, sheet_len, LineAnswer, LineAnswers, Program};
+/// use tholdrimash::{fill_sheet, match_program, sheet_len, LineAnswer, LineAnswers, Program};
 ///
 /// # fn main() -> Result<(), Box<dyn std::error::Error>> {
-/// let table = [1, 2, 6, 0, 0, 0, 3, 0, 3, 3, 110, 111, 112, 104, 108, 116]; // nop, hlt
-/// let lines = ["nop", "n;p", "", "H L T"];
+/// let table = [1, 2, 7, 0, 0, 0, 3, 0, 3, 4, 110, 111, 112, 97, 100, 100, 257]; // nop, add expr
+/// let lines = ["nop", "n;p", "", "ADD 2*(x - 1)"];
 ///
 /// let (mut text, mut ends, mut sheets) = (vec![], vec![], vec![]);
 /// for line in lines {
 ///     text.extend(line.bytes());
 ///     ends.push(text.len() as u32);
-///     sheets.resize(sheets.len() + sheet_len(line.len()), 255); // no expressions
+///     let before = sheets.len();
+///     sheets.resize(before + sheet_len(line.len()), 0);
+///     // A bad line's sheet may hold anything: the program call finds that line bad itself.
+///     let _ = fill_sheet(line.as_bytes(), &mut sheets[before..]);
 /// }
 /// let program = Program {
 ///     text: &text,
@@ -295,7 +298,7 @@ impl ExactSizeIterator for LineAnswers<'_> {}
 ///
 /// let words = match_program(&table, program, &mut rows, &mut answers).written()?;
 /// assert_eq!(rows, [0, 0, 3, 5, 1, 5, 0, 5]); // each line's number, and the words before it
-/// assert_eq!(answers[..words], [1, 3, 0, 0, 0, 1, 3, 0, 1, 0]);
+/// assert_eq!(answers[..words], [1, 3, 0, 0, 0, 1, 3, 0, 1, 1, 0, 4, 13]);
 ///
 /// let told = LineAnswers::read(&rows, &answers[..words]).expect("the rows of a call");
 /// for (line, answer) in lines.iter().zip(told) {
@@ -323,13 +326,13 @@ pub fn match_program(
 /// [`lookup_line`](crate::lookup_line) gives for it.
 ///
 /// ```
-/// use tholdrimash::{lookup_program, Program, ProgramAnswer};
+/// use tholdrimash::{lookup_program, sheet_of, Program, ProgramAnswer};
 ///
 /// let nop = [1, 1, 3, 0, 0, 0, 3, 110, 111, 112];
 /// let program = Program {
 ///     text: b"nop nop",
 ///     ends: &[3], // one line; the rest of the text belongs to none
-///     sheets: &[255; 32],
+///     sheets: &sheet_of(b"nop").expect("a good line"),
 ///     budgets: &[100],
 /// };
 /// let mut answers = [7; 6];

@@ -105,6 +105,13 @@ extern "C" {
         answers_len: usize,
     ) -> Answer;
 
+    fn tholdrimash_fill_sheet(
+        line: *const u8,
+        line_len: usize,
+        sheet: *mut u8,
+        sheet_len: usize,
+    ) -> Answer;
+
     fn tholdrimash_select(
         outcomes: *mut u32,
         outcomes_len: usize,
@@ -194,6 +201,12 @@ pub fn program(
             answers.len(),
         )
     }
+}
+
+pub fn fill_sheet(line: &[u8], sheet: &mut [u8]) -> Answer {
+    // SAFETY: each pointer and length is a slice's own. Only `sheet` is written, and it overlaps
+    // nothing, since it is borrowed to be changed.
+    unsafe { tholdrimash_fill_sheet(line.as_ptr(), line.len(), sheet.as_mut_ptr(), sheet.len()) }
 }
 
 /// `last_pass` is a `bool`, or a word as C gives it, where any but 0 is the last pass.

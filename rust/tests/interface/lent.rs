@@ -3,8 +3,9 @@
 
 use std::fmt::Debug;
 use tholdrimash::{
-    lookup_line, lookup_program, match_line, match_program, read_table, select, write_table,
-    Answer, Pass, Program, ProgramAnswer, ReadAnswer, Selection, WriteAnswer,
+    fill_sheet, lookup_line, lookup_program, match_line, match_program, read_table, select,
+    write_table, Answer, FillAnswer, Pass, Program, ProgramAnswer, ReadAnswer, Selection,
+    WriteAnswer,
 };
 
 /// Stands around what is lent, and in every place of a buffer.
@@ -167,6 +168,15 @@ impl ProgramCall {
         assert_eq!(refusal.number(), number);
         assert_eq!(refusal.written(), Err(refusal));
     }
+}
+
+/// A sheet of so many bytes filled from a line: the answer and the bytes written.
+pub fn fill(line: &[u8], room: usize) -> (FillAnswer, Vec<u8>) {
+    let mut line = Lent::new(line, 0xA5);
+    let mut sheet = Lent::new(&vec![0xA5; room], 0xA5);
+    let told = fill_sheet(line.given(), sheet.given());
+    line.unchanged();
+    (told, sheet.changed(told.written().unwrap_or(0)))
 }
 
 /// A selection: the answer, the outcomes after it and the indices written.

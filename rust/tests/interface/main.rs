@@ -1,7 +1,8 @@
 //! The crate's functions against the linked library: document 01's bench cases, every number, and
-//! tables as text and programs beside models of them, on memory that is watched.
+//! tables as text, programs and filled sheets beside models of them, on memory that is watched.
 
 mod bench;
+mod expressions;
 mod lent;
 mod listing;
 mod model;
