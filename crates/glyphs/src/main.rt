@@ -5,7 +5,6 @@ mod outcome;
 mod reading;
 mod rules;
 mod selection;
-mod sheet;
 mod show;
 mod table;
 
@@ -19,11 +18,15 @@ use crate::show::say;
 use crate::show::tell;
 use crate::table::LISTING;
 use crate::table::MOST_WORDS;
+use expressions::fill_sheet;
 use listing::reading::ReadAnswer;
 use listing::reading::read_table;
 use trials::Answer;
 
 const IN: i32 = 0;
+
+// The bytes of the longest line's sheet, 2 · 121².
+const MOST_SHEET: usize = 29_282;
 
 // More visits than any line takes under this table.
 const BUDGET: u32 = 10_000;
@@ -72,9 +75,9 @@ fn put_readings(line: &[u8], found: &[u16; ROOM], again: &[u16; ROOM]) {
     selection::pass(o, true);
 }
 
-// Makes a line's sheet, and calls both entry points.
+// Fills a line's sheet, and calls both entry points. A bad line is left as it is, and they refuse it too.
 fn read(table: &[u16], line: &[u8], sheet: &mut [u8]) {
-    sheet::fill(sheet, line);
+    fill_sheet(line, sheet);
     let mut found = [0u16; ROOM];
     let scan = matcher::match_instr(table, line, sheet, BUDGET, &mut found);
     let mut again = [0u16; ROOM];
@@ -93,8 +96,8 @@ fn show_line(table: &[u16], line: &[u8]) {
     if is_comment(line) {
         return;
     }
-    let mut sheet = [0u8; sheet::MOST_BYTES];
-    let length = sheet::length(line.len());
+    let mut sheet = [0u8; MOST_SHEET];
+    let length = lines::sheet_size(line.len());
     read(table, line, &mut sheet[0..length]);
 }
 
