@@ -71,11 +71,12 @@ fn pass(o: Outcomes, last: bool) -> bool {
         say(b" |");
         put_outcome(o.second);
     }
-    let mut words = [o.first, o.second];
-    let mut chosen = [0u16; MOST];
     if MOST < count {
+        tell(b" -> none is chosen among % readings\n", count, 0, 0);
         return false;
     }
+    let mut words = [o.first, o.second];
+    let mut chosen = [0u16; MOST];
     let answer = resolve_encoding(&mut words[0..count], last, &mut chosen);
     match answer {
         Selection::Chosen { count } => {
