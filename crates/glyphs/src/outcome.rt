@@ -21,6 +21,9 @@ const OTHER: u32 = 300;
 // From here on a number fits no constraint, and its further digits do not matter.
 const LARGE: u32 = 100_000;
 
+// What a digit more multiplies a number by.
+const TEN: u32 = 10;
+
 // A number, or what stands for any other expression: how far from zero it is, and whether below.
 pub struct Value {
     pub number: bool,
@@ -105,7 +108,7 @@ pub fn value_of(text: &[u8]) -> Value {
 fn with_digit(size: u32, byte: u8) -> u32 {
     if size < LARGE {
         if b'0' <= byte {
-            return size * 10 + (byte - b'0') as u32;
+            return size * TEN + (byte - b'0') as u32;
         }
     }
     size

@@ -17,10 +17,15 @@ pub const ROOM: usize = 4_096;
 // Where the first reading begins: after the number of readings and their exact count.
 pub const FIRST: usize = 2;
 
-// The words of a rule, ruleset, number and argument count; and of an argument, kind, start and end.
+// How many words a rule has, ruleset, number and argument count; and where in them the last stands.
 const RULE: usize = 3;
 
+const COUNT: usize = 2;
+
+// How many words an argument has, kind, start and end; and where in them the last stands.
 const ARGUMENT: usize = 3;
+
+const END: usize = 2;
 
 // The kind of an argument that has a match of its own.
 const NESTED: usize = 1;
@@ -73,10 +78,15 @@ fn take_one(to_come: &mut [usize; DEPTHS], depth: usize) -> bool {
     false
 }
 
-// Writes an argument's text.
+// An argument's text.
+fn text_of<'a>(words: &[u16; ROOM], line: &'a [u8], at: usize) -> &'a [u8] {
+    part(line, word(words, at, 1), word(words, at, END))
+}
+
+// Writes it.
 fn put_text(words: &[u16; ROOM], line: &[u8], at: usize) {
     say(b" {");
-    say(part(line, word(words, at, 1), word(words, at, 2)));
+    say(text_of(words, line, at));
 }
 
 impl Reading {
@@ -100,7 +110,7 @@ impl Reading {
         let at = self.at;
         put_text(words, line, at);
         say(b"}");
-        let v = value_of(part(line, word(words, at, 1), word(words, at, 2)));
+        let v = value_of(text_of(words, line, at));
         self.guessing = with_value(v, self.rule, false, self.guessing);
         self.last = with_value(v, self.rule, true, self.last);
         self.at = past(at, ARGUMENT);
@@ -124,7 +134,7 @@ impl Reading {
             0,
         );
         if depth < DEEPEST {
-            to_come[depth + 1] = word(words, at, ARGUMENT + 2);
+            to_come[depth + 1] = word(words, at, ARGUMENT + COUNT);
             self.depth = depth + 1;
         }
         self.at = past(at, ARGUMENT + RULE);
@@ -157,7 +167,7 @@ impl Reading {
     // into it and out of it, so as many turns as words are enough.
     pub fn show(words: &[u16; ROOM], line: &[u8], at: usize) -> Self {
         let mut to_come = [0usize; DEPTHS];
-        to_come[0] = word(words, at, 2);
+        to_come[0] = word(words, at, COUNT);
         let mut r = Reading::new(words, at);
         let mut turns = ROOM;
         while turns > 0 {

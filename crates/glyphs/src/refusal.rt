@@ -35,6 +35,7 @@ pub fn put_refusal(answer: Answer, line: &[u8]) {
             ROOM,
             0,
         ),
+        // A match is no refusal, and is not lent here.
         Answer::Matched {
             visits: _,
             words: _,
