@@ -1,134 +1,33 @@
-// The main job on a small table of glyph rules that overlap, read from its listing at the start. For each line of standard
-// input, up to 4,096 bytes: every reading with the most exact parts; then, on a guessing pass and on the last, the smallest
-// known encoding among them, or why the build stops. A line that begins with `#` is a comment.
+// The main job as a program, on a table of the user's own or on the example's:
+//
+//     glyphs [TABLE] <LINES
+//
+// TABLE is a file that holds a table's listing. Of each line of standard input it writes every reading with the most exact
+// parts. With no TABLE it takes a small table of glyph rules that overlap, whose encodings it knows; so it goes on to choose
+// the smallest known encoding, on a guessing pass and on the last. The last line that it writes says how many lines stop the
+// build. It refuses a bad table and wrong use on standard error, and then reads no line.
+mod file;
+mod input;
+mod matching;
 mod outcome;
 mod reading;
+mod refusal;
 mod rules;
 mod selection;
-mod sheet;
 mod show;
 mod table;
 
-use crate::reading::FIRST;
-use crate::reading::ROOM;
-use crate::reading::Reading;
-use crate::reading::word;
-use crate::selection::Outcomes;
+use crate::file::File;
+use crate::show::complain;
 use crate::show::part;
-use crate::show::say;
-use crate::show::tell;
 use crate::table::LISTING;
+use crate::table::MOST_BYTES;
 use crate::table::MOST_WORDS;
 use listing::reading::ReadAnswer;
 use listing::reading::read_table;
-use trials::Answer;
 
-const IN: i32 = 0;
-
-// More visits than any line takes under this table.
-const BUDGET: u32 = 10_000;
-
-// Writes why a line has no reading.
-fn put_refusal(answer: Answer) {
-    match answer {
-        Answer::NoMatch { visits: _ } => say(b"\n    the build stops, number 1: no rule reads it"),
-        Answer::BadTable => say(b"\n    the build stops, number 2: bad table"),
-        Answer::BadLine { place } => tell(
-            b"\n    the build stops, number 3: bad line at place %",
-            place as usize,
-            0,
-            0,
-        ),
-        _ => say(b"\n    the build stops"),
-    }
-}
-
-// Writes the readings, how many lookup found, and what is chosen among them on a guessing pass and on the last.
-fn put_readings(line: &[u8], found: &[u16; ROOM], again: &[u16; ROOM]) {
-    let count = word(found, 0, 0);
-    let first = Reading::show(found, line, FIRST);
-    let second = if 1 < count {
-        Reading::show(found, line, first.at)
-    } else {
-        first
-    };
-    tell(
-        b"\n    readings: % by scan, % by lookup; exact parts: %\n    guessing pass:",
-        count,
-        word(again, 0, 0),
-        word(found, 0, 1),
-    );
-    let mut o = Outcomes {
-        count,
-        rule: first.rule,
-        other: second.rule,
-        first: first.guessing,
-        second: second.guessing,
-    };
-    selection::pass(o, false);
-    o.first = first.last;
-    o.second = second.last;
-    say(b"\n    last pass:    ");
-    selection::pass(o, true);
-}
-
-// Makes a line's sheet, and calls both entry points.
-fn read(table: &[u16], line: &[u8], sheet: &mut [u8]) {
-    sheet::fill(sheet, line);
-    let mut found = [0u16; ROOM];
-    let scan = matcher::match_instr(table, line, sheet, BUDGET, &mut found);
-    let mut again = [0u16; ROOM];
-    matcher::match_with_ruledef_map(table, line, sheet, BUDGET, &mut again);
-    if word(&found, 0, 0) == 0 {
-        put_refusal(scan);
-    } else {
-        put_readings(line, &found, &again);
-    }
-}
-
-// Writes a line of the input, and under it what is read in it.
-fn show_line(table: &[u16], line: &[u8]) {
-    say(b"\n");
-    say(line);
-    if is_comment(line) {
-        return;
-    }
-    let mut sheet = [0u8; sheet::MOST_BYTES];
-    let length = sheet::length(line.len());
-    read(table, line, &mut sheet[0..length]);
-}
-
-fn is_comment(line: &[u8]) -> bool {
-    if line.len() == 0 {
-        return true;
-    }
-    line[0] == b'#'
-}
-
-// The lines of a text: what stands before a newline, and after the last one if that is something.
-fn show_lines(table: &[u16], text: &[u8]) {
-    let mut from: usize = 0;
-    let mut at: usize = 0;
-    while at < text.len() {
-        if text[at] == b'\n' {
-            show_line(table, part(text, from, at));
-            from = at + 1;
-        }
-        at += 1;
-    }
-    if from < at {
-        show_line(table, part(text, from, at));
-    }
-}
-
-// Writes the table's rules, and what is read in the lines of standard input.
-fn show_input(table: &[u16]) {
-    let mut text = io::buffer();
-    let n = io::read_full(IN, &mut text);
-    rules::show(table);
-    show_lines(table, &text[..n]);
-    say(b"\n");
-}
+// How many arguments there are, the program's name counted, if one names a table.
+const WITH_TABLE: usize = 2;
 
 // The table that reading wrote: exactly so many words, the first of its room. Reading says no more than the room has.
 fn table_in(room: &[u16], words: usize) -> &[u16] {
@@ -138,17 +37,52 @@ fn table_in(room: &[u16], words: usize) -> &[u16] {
     &room[0..0]
 }
 
-fn main() {
+// Writes what is read in the lines of standard input. The encodings are known of the example's own table alone.
+fn show_lines(table: &[u16], encoded: bool) {
+    if encoded {
+        rules::show(table);
+    }
+    input::show(table, encoded);
+}
+
+// Reads a table's listing, and then the lines under that table.
+fn with_listing(text: &[u8], encoded: bool) {
     let mut room = [0u16; MOST_WORDS];
-    let answer = read_table(&LISTING, &mut room);
+    let answer = read_table(text, &mut room);
     match answer {
-        ReadAnswer::Read { words } => show_input(table_in(&room, words as usize)),
-        ReadAnswer::BadText { line } => tell(
-            b"the listing is refused, number 15: bad line %\n",
-            line as usize,
-            0,
-            0,
+        ReadAnswer::Read { words } => show_lines(table_in(&room, words as usize), encoded),
+        ReadAnswer::BadText { line } => refusal::bad_listing(text, line as usize),
+        ReadAnswer::NoRoom => complain(
+            b"the table is refused, number 16: it takes more than % words\n",
+            MOST_WORDS,
         ),
-        ReadAnswer::NoRoom => say(b"the listing is refused, number 16: its words have no room\n"),
+    }
+}
+
+// The table is in the file that the first argument names.
+fn with_file() {
+    let mut text = [0u8; MOST_BYTES];
+    let found = file::read_named(&mut text);
+    match found {
+        File::Whole { bytes } => with_listing(part(&text, 0, bytes), false),
+        File::Longer => complain(
+            b"the table is refused, number 15: it is longer than % bytes\n",
+            MOST_BYTES,
+        ),
+        File::Unread => {}
+    }
+}
+
+fn main() {
+    let arguments = os::arg_count();
+    if arguments < WITH_TABLE {
+        with_listing(&LISTING, true);
+    } else if arguments == WITH_TABLE {
+        with_file();
+    } else {
+        complain(
+            b"wrong use: one table at most, as in glyphs TABLE <LINES\n",
+            0,
+        );
     }
 }

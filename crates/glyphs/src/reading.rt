@@ -1,5 +1,6 @@
-// Takes a reading from the answer words, writes it, and makes its outcome words. The match of a nested argument follows
-// it, so a walk from left to right meets every argument with no recursion: it counts how many are still to come.
+// Takes a reading of any table from the answer words, writes it, and makes its outcome words. A nested argument's match
+// follows it, so a walk from left to right meets every argument with no recursion: it keeps, for each depth, how many
+// arguments of the match there are still to come. Every step is guarded, so any words are walked safely.
 use crate::outcome::SIZE_UNIT;
 use crate::outcome::SIZED;
 use crate::outcome::value_of;
@@ -9,27 +10,40 @@ use crate::show::part;
 use crate::show::say;
 use crate::show::tell;
 use crate::show::wide;
-ghost use Prim.Native.Nat.{_<_};
 
 // The most words that an answer may have here.
-pub const ROOM: usize = 32;
+pub const ROOM: usize = 4_096;
 
 // Where the first reading begins: after the number of readings and their exact count.
 pub const FIRST: usize = 2;
 
-// The words of a rule, ruleset, number and argument count; and of an argument, kind, start and end.
+// How many words a rule has, ruleset, number and argument count; and where in them the last stands.
 const RULE: usize = 3;
 
+const COUNT: usize = 2;
+
+// How many words an argument has, kind, start and end; and where in them the last stands.
 const ARGUMENT: usize = 3;
 
-// A reading by a rule of ruleset 0: its outcome words on a guessing pass and on the last, so far; the next word, and how
-// many arguments are still to come.
+const END: usize = 2;
+
+// The kind of an argument that has a match of its own.
+const NESTED: usize = 1;
+
+// The greatest depth of a match, and how many depths there are.
+const DEEPEST: usize = 16;
+
+const DEPTHS: usize = 17;
+
+// A reading: its rule, and its outcome words on a guessing pass and on the last, so far, which mean something under the
+// example's own table alone. Then the next word, the depth of the match that it is in, and whether all is written.
 pub struct Reading {
     pub rule: usize,
     pub guessing: u32,
     pub last: u32,
     pub at: usize,
-    pub left: usize,
+    depth: usize,
+    whole: bool,
 }
 
 // The word that stands so far after a place, or 0 past the end.
@@ -42,64 +56,126 @@ pub fn word(words: &[u16; ROOM], at: usize, after: usize) -> usize {
     0
 }
 
-// A sum of places or of arguments. An answer of so few words has no more of either than words.
-fn plus(a: usize, b: usize) -> usize {
-    if a < ROOM {
-        if b < ROOM {
-            return a + b;
+// The place that stands so far after another, or the end.
+fn past(at: usize, after: usize) -> usize {
+    if at < ROOM {
+        if after < ROOM - at {
+            return at + after;
         }
     }
-    0
+    ROOM
+}
+
+// Takes one of the arguments to come at a depth. False if there is none.
+fn take_one(to_come: &mut [usize; DEPTHS], depth: usize) -> bool {
+    if depth < DEPTHS {
+        let left = to_come[depth];
+        if 0 < left {
+            to_come[depth] = left - 1;
+            return true;
+        }
+    }
+    false
+}
+
+// An argument's text.
+fn text_of<'a>(words: &[u16; ROOM], line: &'a [u8], at: usize) -> &'a [u8] {
+    part(line, word(words, at, 1), word(words, at, END))
+}
+
+// Writes it.
+fn put_text(words: &[u16; ROOM], line: &[u8], at: usize) {
+    say(b" {");
+    say(text_of(words, line, at));
 }
 
 impl Reading {
     // The reading that begins at a place, before its first argument.
     fn new(words: &[u16; ROOM], at: usize) -> Self {
         let rule = word(words, at, 1);
+        tell(b"    %.%", word(words, at, 0), rule, 0);
         let sized = SIZED + SIZE_UNIT * bits_of(rule) as u32;
         Reading {
             rule,
             guessing: sized,
             last: sized,
-            at: plus(at, RULE),
-            left: word(words, at, 2),
+            at: past(at, RULE),
+            depth: 0,
+            whole: false,
         }
     }
 
-    // Writes an argument, and goes past it. A nested one has no value, and the arguments of its match come next.
-    fn next(mut self, words: &[u16; ROOM], line: &[u8]) -> Self
-        requires within { ⌜ self .at < 32 ⌝ }
-        requires more { ⌜ 0 < self .left ⌝ }
-        ensures further { λ r. ⌜ self .at < r .at ⌝ }
-    {
+    // Past an expression, whose value counts. (The example's nested rules have no parameters.)
+    fn over_expression(mut self, words: &[u16; ROOM], line: &[u8]) -> Self {
         let at = self.at;
-        let text = part(line, word(words, at, 1), word(words, at, 2));
-        say(b" {");
-        say(text);
-        self.left -= 1;
-        if word(words, at, 0) == 1 {
-            tell(b" (%.%)}", word(words, at, 3), word(words, at, 4), 0);
-            self.at = at + ARGUMENT + RULE;
-            self.left = plus(self.left, word(words, at, 5));
-            return self;
-        }
+        put_text(words, line, at);
         say(b"}");
-        let v = value_of(text);
+        let v = value_of(text_of(words, line, at));
         self.guessing = with_value(v, self.rule, false, self.guessing);
         self.last = with_value(v, self.rule, true, self.last);
-        self.at = at + ARGUMENT;
+        self.at = past(at, ARGUMENT);
         self
     }
 
-    // Writes the reading that begins at a place, and returns it, with no argument to come.
+    // Into a nested argument's match: its text, its rule, and its own arguments to come.
+    fn into_match(
+        mut self,
+        words: &[u16; ROOM],
+        line: &[u8],
+        to_come: &mut [usize; DEPTHS],
+    ) -> Self {
+        let at = self.at;
+        let depth = self.depth;
+        put_text(words, line, at);
+        tell(
+            b": %.%",
+            word(words, at, ARGUMENT),
+            word(words, at, ARGUMENT + 1),
+            0,
+        );
+        if depth < DEEPEST {
+            to_come[depth + 1] = word(words, at, ARGUMENT + COUNT);
+            self.depth = depth + 1;
+        }
+        self.at = past(at, ARGUMENT + RULE);
+        self
+    }
+
+    // Out of a match that has no more arguments.
+    fn out_of_match(mut self) -> Self {
+        if self.depth == 0 {
+            say(b"\n");
+            self.whole = true;
+            return self;
+        }
+        say(b"}");
+        self.depth -= 1;
+        self
+    }
+
+    fn next(self, words: &[u16; ROOM], line: &[u8], to_come: &mut [usize; DEPTHS]) -> Self {
+        if !take_one(to_come, self.depth) {
+            return self.out_of_match();
+        }
+        if word(words, self.at, 0) == NESTED {
+            return self.into_match(words, line, to_come);
+        }
+        self.over_expression(words, line)
+    }
+
+    // Writes the reading that begins at a place, and returns it. An argument has three words and takes at most two turns,
+    // into it and out of it, so as many turns as words are enough.
     pub fn show(words: &[u16; ROOM], line: &[u8], at: usize) -> Self {
-        tell(b"\n    %.%", word(words, at, 0), word(words, at, 1), 0);
+        let mut to_come = [0usize; DEPTHS];
+        to_come[0] = word(words, at, COUNT);
         let mut r = Reading::new(words, at);
-        while r.at < ROOM {
-            if r.left == 0 {
+        let mut turns = ROOM;
+        while turns > 0 {
+            turns -= 1;
+            r = r.next(words, line, &mut to_come);
+            if r.whole {
                 return r;
             }
-            r = r.next(words, line);
         }
         r
     }

@@ -45,7 +45,7 @@ pub fn fits_of(rule: usize) -> usize {
 
 // Writes all rules of the table. A rule's number counts from its ruleset's first.
 pub fn show(table: &[u16]) {
-    say(b"Rules: ruleset.rule, pattern, encoding");
+    say(b"Rules: ruleset.rule, pattern, encoding\n");
     let rules = rule_count(table);
     let mut first: u16 = 0;
     let mut rule: u16 = 0;
@@ -71,11 +71,12 @@ fn first_of(table: &[u16], first: u16, rule: u16) -> u16
 
 // Writes a rule: its ruleset, its number there, its pattern, and the encoding if it is a top one.
 fn show_rule(table: &[u16], rule: u16, number: usize) {
-    tell(b"\n    %.%  ", ruleset_of(table, rule), number, 0);
+    tell(b"    %.%  ", ruleset_of(table, rule), number, 0);
     put_pattern(table, rule);
     if is_top_rule(table, rule) {
         put_encoding(number);
     }
+    say(b"\n");
 }
 
 fn put_encoding(rule: usize) {

@@ -1,27 +1,38 @@
-// Parts of a text, and what is written to standard output.
+// Parts of a text, and what is written: to standard output, or to standard error what refuses the whole run.
+use libc::STDERR_FILENO;
+use libc::STDOUT_FILENO;
 ghost use Prim.Native.Nat.{_≤_};
 
-const OUT: i32 = 1;
-
 pub fn say(text: &[u8]) {
-    io::write_all(OUT, text);
+    io::write_all(STDOUT_FILENO, text);
 }
 
 // Writes a text, with a number for each `%` in it, in turn.
 pub fn tell(text: &[u8], first: usize, second: usize, third: usize) {
+    write(STDOUT_FILENO, text, first, second, third);
+}
+
+// Tells on standard error why no line is read.
+pub fn complain(text: &[u8], number: usize) {
+    write(STDERR_FILENO, text, number, 0, 0);
+}
+
+fn write(fd: i32, text: &[u8], first: usize, second: usize, third: usize) {
     let mut next = first;
     let mut then = second;
-    let mut i: usize = 0;
-    while i < text.len() {
-        if text[i] == b'%' {
-            io::print_decimal(OUT, next as u64);
+    let mut from: usize = 0;
+    let mut at: usize = 0;
+    while at < text.len() {
+        if text[at] == b'%' {
+            io::write_all(fd, part(text, from, at));
+            io::print_decimal(fd, next as u64);
             next = then;
             then = third;
-        } else {
-            say(&text[i..i + 1]);
+            from = at + 1;
         }
-        i += 1;
+        at += 1;
     }
+    io::write_all(fd, part(text, from, at));
 }
 
 // A part of a text, or nothing of it if the places are no part's.

@@ -1,5 +1,5 @@
 // The example's rules as a listing, the text that a hinter edits: a record a line, fields parted by tabs. Ruleset 0 is a top
-// one, ruleset 1 nested only. The program reads it once, into document 01's packed words.
+// one, ruleset 1 nested only. The program reads it once, into document 01's packed words, as it does a table of the user's own.
 
 // The listing's bytes.
 const BYTES: usize = 232;
@@ -17,5 +17,7 @@ pub const LISTING: [u8; BYTES] = *b"\
     rule\t1\tl\te\tf\tt\n\
     rule\t1\tr\ti\tg\th\tt\n";
 
-// The most words that it may be read into. It has room to grow: how many words it takes, reading says.
-pub const MOST_WORDS: usize = 1_000;
+// The longest listing of a table, and the most words that one is read into.
+pub const MOST_BYTES: usize = 41_440;
+
+pub const MOST_WORDS: usize = 9_763;

@@ -20,8 +20,8 @@ loop-holds c = search needs
 shared-slice-read-byte : tie.Need-shared-slice-read-byte Inv-loop μ-loop
 shared-slice-read-byte c = search needs
 
-class-requires : tie.Need-class-requires Inv-loop μ-loop
-class-requires c κs = search needs
+is-of-number-requires : tie.Need-is-of-number-requires Inv-loop μ-loop
+is-of-number-requires c κs = search needs
 
 returns : tie.Need-returns Inv-loop μ-loop
 returns c = search needs
@@ -50,7 +50,7 @@ value-of-spec =
     over-sign-requires
     loop-holds
     shared-slice-read-byte
-    class-requires
+    is-of-number-requires
     returns
     with-digit-requires
     add-i

@@ -1,26 +1,20 @@
--- An argument takes words, and the loop ends with the words: each turn goes further.
+-- The measure is the number of turns that are left: what is walked may be any words.
 use borrow.Author.Needs.{needs}
-use Prim.Native.Nat.{_-_, _≤_}
+use Prim.Native.Nat.{_≤_}
 use Rattle.glyphs.proofs.reading.Reading.show.Statement.{statement}
 use Rattle.glyphs.proofs.reading.Reading.show.Tie as tie
 
 abbrev Inv-loop : tie.InvT-loop
-Inv-loop words line at r₀ r = 0 ≤ r .at
+Inv-loop words line at to-come₀ r₀ turns₀ to-come r turns = 0 ≤ turns
 
 abbrev μ-loop : tie.MeasureT-loop
-μ-loop words line at r₀ r = 32 - r .at
-
-slice-aggregate-tell : tie.Need-slice-aggregate-tell Inv-loop μ-loop
-slice-aggregate-tell c = search needs
+μ-loop words line at to-come₀ r₀ turns₀ to-come r turns = turns
 
 word-requires : tie.Need-word-requires Inv-loop μ-loop
 word-requires c κs = search needs
 
-word-requires-2 : tie.Need-word-requires-2 Inv-loop μ-loop
-word-requires-2 c κs = search needs
-
-tell-requires : tie.Need-tell-requires Inv-loop μ-loop
-tell-requires c κs = search needs
+array-write-to-come : tie.Need-array-write-to-come Inv-loop μ-loop
+array-write-to-come c = search needs
 
 new-requires : tie.Need-new-requires Inv-loop μ-loop
 new-requires c κs = search needs
@@ -28,11 +22,14 @@ new-requires c κs = search needs
 loop-holds : tie.Need-loop-holds Inv-loop μ-loop
 loop-holds c = search needs
 
-returns : tie.Need-returns Inv-loop μ-loop
-returns c = search needs
+sub-turns : tie.Need-sub-turns Inv-loop μ-loop
+sub-turns c = search needs
 
 next-requires : tie.Need-next-requires Inv-loop μ-loop
 next-requires c κs = search needs
+
+returns : tie.Need-returns Inv-loop μ-loop
+returns c = search needs
 
 loop-less : tie.Need-loop-less Inv-loop μ-loop
 loop-less c = search needs
@@ -49,14 +46,13 @@ show-spec =
     (tie.spec
     Inv-loop
     μ-loop
-    slice-aggregate-tell
     word-requires
-    word-requires-2
-    tell-requires
+    array-write-to-come
     new-requires
     loop-holds
-    returns
+    sub-turns
     next-requires
+    returns
     loop-less
     loop-again
     returns-2)

@@ -1,15 +1,15 @@
--- The loop needs nothing of what it has shown: it tests its place.
+-- The loop needs nothing of what it has written: it tests its place.
 use borrow.Author.Needs.{needs}
 use Prim.Native.Nat.{_-_, _≤_}
 use lib.ListN.{length}
-use Rattle.glyphs.proofs.show_lines.Statement.{statement}
-use Rattle.glyphs.proofs.show_lines.Tie as tie
+use Rattle.glyphs.proofs.show.write.Statement.{statement}
+use Rattle.glyphs.proofs.show.write.Tie as tie
 
 abbrev Inv-loop : tie.InvT-loop
-Inv-loop table text from₀ at₀ from at = 0 ≤ at
+Inv-loop fd text first second third next₀ then₀ from₀ at₀ next then from at = 0 ≤ at
 
 abbrev μ-loop : tie.MeasureT-loop
-μ-loop table text from₀ at₀ from at = length text - at
+μ-loop fd text first second third next₀ then₀ from₀ at₀ next then from at = length text - at
 
 loop-holds : tie.Need-loop-holds Inv-loop μ-loop
 loop-holds c = search needs
@@ -20,8 +20,11 @@ shared-slice-read-if1 c = search needs
 part-requires : tie.Need-part-requires Inv-loop μ-loop
 part-requires c κs = search needs
 
-show-line-requires : tie.Need-show-line-requires Inv-loop μ-loop
-show-line-requires c κs = search needs
+write-all-requires : tie.Need-write-all-requires Inv-loop μ-loop
+write-all-requires c κs = search needs
+
+print-decimal-requires : tie.Need-print-decimal-requires Inv-loop μ-loop
+print-decimal-requires c κs = search needs
 
 add-from : tie.Need-add-from Inv-loop μ-loop
 add-from c = search needs
@@ -38,17 +41,14 @@ loop-again c = search needs
 part-requires-2 : tie.Need-part-requires-2 Inv-loop μ-loop
 part-requires-2 c κs = search needs
 
-show-line-requires-2 : tie.Need-show-line-requires-2 Inv-loop μ-loop
-show-line-requires-2 c κs = search needs
+write-all-requires-2 : tie.Need-write-all-requires-2 Inv-loop μ-loop
+write-all-requires-2 c κs = search needs
 
 returns : tie.Need-returns Inv-loop μ-loop
 returns c = search needs
 
-returns-2 : tie.Need-returns-2 Inv-loop μ-loop
-returns-2 c = search needs
-
-pub show-lines-spec : {M : Type 1} → statement M
-show-lines-spec =
+pub write-spec : {M : Type 1} → statement M
+write-spec =
     tie.close
     (tie.spec
     Inv-loop
@@ -56,12 +56,12 @@ show-lines-spec =
     loop-holds
     shared-slice-read-if1
     part-requires
-    show-line-requires
+    write-all-requires
+    print-decimal-requires
     add-from
     add-at
     loop-less
     loop-again
     part-requires-2
-    show-line-requires-2
-    returns
-    returns-2)
+    write-all-requires-2
+    returns)
