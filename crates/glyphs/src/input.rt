@@ -104,7 +104,7 @@ impl Progress {
             self
         };
         tell(
-            b"\n% lines, % of them stop the build\n",
+            b"\nlines: %, stopping the build: %\n",
             all.lines,
             all.stops,
             0,
