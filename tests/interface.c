@@ -1199,18 +1199,30 @@ static void unfilled_sheets(void) {
     }
 }
 
-/* Matching by T on sheets that were filled: `mov 7` alone, and a program whose sheets are filled where they stand. */
+/* Table T on the line's filled sheet, by scan and by lookup. */
+static void matches_filled(const char *line, uint32_t number, uint32_t visits, const uint16_t *words, size_t len) {
+    uint8_t sheet[2 * 48 * 48];
+    size_t n = strlen(line), sheet_len = 2 * (n + 1) * (n + 1);
+
+    tholdrimash_answer told = tholdrimash_fill_sheet((const uint8_t *)line, n, sheet, sheet_len);
+    check(line, "filled", told.number == THOLDRIMASH_FILLED && told.words == sheet_len);
+    both(line, (call){t, LEN(t), line, sheet, sheet_len, ALL, len},
+         (tholdrimash_answer){.number = number, .visits = visits, .words = (uint32_t)len}, words);
+}
+
+/* Matching on filled sheets: the manual's lines, and a program whose sheets are filled where they stand. */
 static void matched_when_filled(void) {
-    static const uint16_t seven[] = {MOV_7}, words[] = {MOV_7, MOV_P, 1, 3, 0, 0, 1, 0, 4, 11, MOV_Q};
+    static const uint16_t p_alone[] = {MOV_P}, seven[] = {MOV_7}, sum[] = {1, 3, 0, 0, 1, 0, 4, 13};
+    static const uint16_t words[] = {MOV_7, MOV_P, 1, 3, 0, 0, 1, 0, 4, 11, MOV_Q};
     static const uint32_t rows[] = {0, 0, 0, 8, 0, 19, 3, 27, 1, 27, 0, 27};
     static const char *const lines[] = {"mov 7", "mov p", "mov (p - 3)", "mov;", "mov 7,", "mov\rq"};
     static program p;
-    uint8_t sheet[72];
+    tholdrimash_answer told;
 
-    tholdrimash_answer told = tholdrimash_fill_sheet((const uint8_t *)"mov 7", 5, sheet, sizeof sheet);
-    check("mov 7", "filled", told.number == THOLDRIMASH_FILLED);
-    both("mov 7, its sheet filled", (call){t, LEN(t), "mov 7", sheet, sizeof sheet, ALL, LEN(seven)},
-         (tholdrimash_answer){.number = THOLDRIMASH_MATCHED, .visits = 13, .words = LEN(seven)}, seven);
+    matches_filled("mov p", THOLDRIMASH_MATCHED, 15, p_alone, LEN(p_alone));
+    matches_filled("mov 7", THOLDRIMASH_MATCHED, 13, seven, LEN(seven));
+    matches_filled("mov 7+(q - 2)", THOLDRIMASH_MATCHED, 14, sum, LEN(sum));
+    matches_filled("mov 7+", THOLDRIMASH_NO_MATCH, 13, NULL, 0);
 
     begin(&p, LEN(words));
     for (size_t i = 0; i < LEN(lines); i++) {

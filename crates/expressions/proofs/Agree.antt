@@ -1,5 +1,5 @@
 -- The grammar and what is computed agree both ways; an end stays or grows with its limit, and depends only on bytes before it.
-use mathlib.Core.Path.{_≡_, refl, sym, ap, _∙_, subst}
+use mathlib.Core.Path.{_≡_, refl, sym, ap, subst}
 use mathlib.Core.Logic.{_↔_}
 use mathlib.Core.Bool.{Bool, true}
 use mathlib.Core.List.{List, _∷_}
@@ -12,7 +12,6 @@ use Rattle.extents.specs.declared.Half.{Half}
 use Rattle.extents.specs.declared.Half.the-variants.{Free, Greedy}
 use Rattle.expressions.specs.Grammar.{isOperator, isMinus, isOpener, isCloser, GreatestEnd, Begins, Sign, Word, Digits, Name, Term, digits, name, minus, parens, Expr, term, joined}
 use Rattle.expressions.specs.Sheet.{EndIn, endFor}
-use Rattle.expressions.proofs.Spans.{term-span, expr-span}
 use Rattle.expressions.proofs.Local.{Agree, word-local, expr-local}
 use Rattle.expressions.proofs.Greatest.{Greatest, greatest-one}
 use Rattle.expressions.proofs.Entries.{end-is}

@@ -1,8 +1,8 @@
 -- The call: each answer from what was found, and what it leaves open: nothing.
 use mathlib.Core.Path.{_≡_, refl, sym, ap, ap₂, _∙_, subst}
-use mathlib.Core.Bool.{Bool, true}
+use mathlib.Core.Bool.{true}
 use mathlib.Core.List.{List}
-use mathlib.Core.Option.{Option, none, some, Option·none-ne-some, Option·some-inj}
+use mathlib.Core.Option.{none, some, Option·none-ne-some, Option·some-inj}
 use Prim.Native.Nat.{ℕ, _+_, _*_, _≤_}
 use native.Mathlib.Nat.{mul-le-mul}
 use native.Mathlib.Omega.{arith}
@@ -66,7 +66,13 @@ fill-call-one line sheet r s (filled t e y d a) (bad-room f z b) = absurd (not-b
 fill-call-one line sheet r s (filled t e y d a) (filled u f z g b) =
     a ∙ ap (λ (x : List ℕ). filledWith (length x) x) (declared-one line t d ∙ sym (declared-one line u g)) ∙ sym b
 
--- what is filled is the line's sheet
+-- what is filled is a good line's
+pub filled-good : (line sheet : List ℕ) (r : Told) → FillCall line sheet r → r .number ≡ 0 → faultAt line ≡ none
+filled-good line sheet r (bad-line p e a) z = let w : _≡_ {A = ℕ} 3 0 = sym (ap (λ (t : Told). t .number) a) ∙ z in absurd (omega arith)
+filled-good line sheet r (bad-room e y a) z = e
+filled-good line sheet r (filled t e y d a) z = e
+
+-- and its sheet
 pub filled-is : (line sheet : List ℕ) (r : Told) → FillCall line sheet r → r .number ≡ 0 → r .buffer ≡ sheetOf line
 filled-is line sheet r (bad-line p e a) z = let w : _≡_ {A = ℕ} 3 0 = sym (ap (λ (t : Told). t .number) a) ∙ z in absurd (omega arith)
 filled-is line sheet r (bad-room e y a) z = let w : _≡_ {A = ℕ} 18 0 = sym (ap (λ (t : Told). t .number) a) ∙ z in absurd (omega arith)

@@ -1,6 +1,5 @@
 -- The sheet of a line holds the greatest ends, passes document 01's check, and gives free and greedy back.
 use mathlib.Core.Path.{_≡_, refl, sym, ap, ap₂, _∙_, subst}
-use mathlib.Core.Logic.{⊎-elim}
 use mathlib.Core.Bool.{Bool, true}
 use mathlib.Core.List.{List}
 use mathlib.Core.Option.{Option, none, some}
@@ -10,18 +9,17 @@ use native.Mathlib.Decide.{decLt}
 use native.Mathlib.Omega.{arith}
 use lib.Dec.{ltb, eqb}
 use lib.ListN.{length, getD}
-use borrow.Author.Tests.{lt-ltb, le-ltb, le-leb, eq-eqb, ne-eqb}
+use borrow.Author.Tests.{lt-ltb, le-ltb, le-leb, eq-eqb}
 use Rattle.plain.specs.Choice.{select}
 use Rattle.plain.proofs.Below.{every-all}
 use Rattle.plain.proofs.Lists.{listed-length, listed-at, as-listed}
-use Rattle.plain.proofs.Tests.{tested, or-left, or-right, and-both}
+use Rattle.plain.proofs.Tests.{or-right, and-both}
 use Rattle.extents.specs.declared.Half.{Half}
 use Rattle.extents.specs.declared.Half.the-variants.{Free, Greedy}
 use Rattle.extents.specs.Sheet.{sized, entryAt, entryFits, fitsAt, rowFits, halfFits, sheetFits, entryEnd, readable, endIn}
 use Rattle.extents.proofs.Places.{in-half}
-use Rattle.extents.proofs.Reading.{read}
+use Rattle.extents.proofs.Reading.{end-some, read}
 use Rattle.extents.proofs.Size.{sized-length}
-use Rattle.expressions.specs.Grammar.{GreatestEnd}
 use Rattle.expressions.specs.Sheet.{EndIn, EntryIs, at-end, no-end, SheetIs, endFor, byteOf, entryFor, inHalf, sheetByte, sheetOf}
 use Rattle.expressions.proofs.Bytes.{digit}
 use Rattle.expressions.proofs.Spans.{Span, word-span, expr-span}
@@ -178,7 +176,7 @@ module _ (line : List ℕ) where
   byte-back half c l none short g = refl
   byte-back half c l (some e) short g =
       let (low, high, inside) = end-within half c l (some e) g e refl in
-      ap (λ (b : Bool). select b none (some e)) (ne-eqb e 255 (λ q. omega arith))
+      sym (end-some e (λ q. omega arith))
 
   pub end-back : n < 255 → (half : Half) (c l : ℕ) → c ≤ l → l ≤ n → endIn (sheetOf line) n half c l ≡ endFor line half c l
   unfolding readable

@@ -1,13 +1,15 @@
--- Rows that are laid from later ones, and the sheet that they make.
+-- Rows that are laid from later ones, and the sheet that they make. Each row of a start is one law, by what its byte begins: what
+-- is laid is the greatest end within each limit, since later rows hold those of later starts. Then the loop: the sheet is made
+-- from c on, and of each start from there the whole end and the next token are kept; one start more keeps that so.
 use mathlib.Core.Path.{_≡_, refl, sym, ap, _∙_, subst}
 use mathlib.Core.Logic.{_⊎_, inl, inr}
-use mathlib.Core.Bool.{Bool, true, false, not}
+use mathlib.Core.Bool.{Bool, true, false}
 use mathlib.Core.List.{List}
 use mathlib.Core.Option.{Option, none, some}
 use Prim.Native.Nat.{ℕ, suc, _+_, _-_, _*_, _≤_, _<_}
 use native.Mathlib.Nat.{mul-le-mul, mul-le-mul-right, add-mul, one-mul}
 use native.Mathlib.Numerals.{add-one}
-use native.Mathlib.Decide.{ℕ-discrete, decLt}
+use native.Mathlib.Decide.{ℕ-discrete}
 use native.Mathlib.Omega.{arith}
 use lib.Dec.{eqb}
 use lib.ListN.{length, getD, set, length-set}
@@ -16,7 +18,7 @@ use borrow.Author.Tests.{eqb-true, eq-eqb, ne-eqb}
 use Rattle.plain.specs.Choice.{select}
 use Rattle.plain.specs.Below.{everyBelow}
 use Rattle.plain.proofs.Below.{every-at}
-use Rattle.plain.proofs.Tests.{tested, not-both}
+use Rattle.plain.proofs.Tests.{not-both}
 use Rattle.token.specs.Token.{isWhitespace}
 use Rattle.syntax.specs.Walker.{byteAt}
 use Rattle.line.specs.Line.{orElse}
@@ -24,21 +26,22 @@ use Rattle.extents.specs.declared.Half.{Half}
 use Rattle.extents.specs.declared.Half.the-variants.{Free, Greedy}
 use Rattle.extents.specs.Sheet.{sized, placeOf, entryAt, entryEnd}
 use Rattle.extents.proofs.Places.{in-half}
+use Rattle.extents.proofs.Reading.{end-some}
 use Rattle.extents.proofs.Size.{sized-length}
 use Rattle.expressions.specs.Grammar.{isDigit, isAlnum, isOperator, Begins, Digits, Expr}
 use Rattle.expressions.specs.declared.Reach.{Reach}
-use Rattle.expressions.specs.Ends.{tokenAt, signAt, runEnd, upTo, TermAt, termAt, changesNone}
+use Rattle.expressions.specs.Ends.{tokenAt, signAt, runEnd, upTo, termAt, changesNone}
 use Rattle.expressions.specs.Sheet.{EndIn, endFor, byteOf, entryFor, sheetOf}
 use Rattle.expressions.specs.Filling.{Lays, WholeIs, Kept, Wholes, Tokens, Follows, Reaches, TermEnds, Made, rowStart, RowLaid, FreeAsked, FreeLaid}
 use Rattle.expressions.proofs.Bytes.{Kind, digit, alnum, operator}
-use Rattle.expressions.proofs.Tokens.{inside, byte-here, begins-there, token-from, token-next, token-over, token-inside}
+use Rattle.expressions.proofs.Tokens.{inside, byte-here, begins-there, token-next, token-over, token-inside}
 use Rattle.expressions.proofs.Spans.{expr-span}
 use Rattle.expressions.proofs.Runs.{run-inside, run-some, run-empty, run-next, run-over}
 use Rattle.expressions.proofs.Starts.{word-on, word-back, word-only, word-each}
 use Rattle.expressions.proofs.Greatest.{Greatest, greatest-map, up-low, up-here, up-past, up-greatest}
 use Rattle.expressions.proofs.Rows.{TermIs, some-term, no-terms, none-is, moved-whole, alone-within, alone-whole, joined-within, joined-whole, past-none, before-none, past-end, term-is}
 use Rattle.expressions.proofs.Laying.{from-row, lays-as, lays-join}
-use Rattle.expressions.proofs.Entries.{end-is, end-span, entry-is, entry-by, byte-back, sheet-is}
+use Rattle.expressions.proofs.Entries.{end-is, end-span, entry-is, entry-by, sheet-is}
 use Rattle.expressions.proofs.Told.{sign-on, sign-off}
 
 -- ---- where rows stand
@@ -194,17 +197,13 @@ row-ends line before between after half c low top is more within a b =
 
 -- ---- a free row
 
--- a whole end's byte, read back
-whole-back : (top : ℕ) → top ≤ 120 → some top ≡ entryEnd top
-whole-back top h = sym (ap (λ (b : Bool). select b none (some top)) (ne-eqb top 255 (λ q. omega arith)))
-
 module _ (line before between after : List ℕ) (c low top : ℕ) (made : Made line before (c + 1)) (start : c < length line) (ends : TermEnds line c low top)
     (first : Lays before between (c * (length line + 1)) 0 (top + 1) (λ (l : ℕ). byteOf (upTo low top l))) where
   pub free-alone : signAt isOperator line top ≡ none → Lays between after (c * (length line + 1)) (top + 1) (length line + 1) (λ (l : ℕ). top)
       → FreeLaid line before after c top
   free-alone e second = record {
     row = row-ends line before between after Free c low top (alone-within line c low top ends e) (ends .some) (ends .inside) first second;
-    ends = subst (WholeIs line c) (whole-back top (omega (arith, made .short, ends .inside))) (alone-whole line c low top ends e);
+    ends = subst (WholeIs line c) (end-some top (λ q. omega (arith, made .short, ends .inside))) (alone-whole line c low top ends e);
   }
 
   module _ (p : ℕ) (sign : Begins isOperator line top p) (next : ℕ) (is : next ≡ suc p) where
@@ -286,8 +285,8 @@ module _ (line wholes : List ℕ) (c inner : ℕ) (w : Wholes line wholes (c + 1
 -- ---- a greedy row
 
 -- the digits from c on
-pub digits-top : (line : List ℕ) (c : ℕ) → c < length line → (top : ℕ) → c < top → top ≡ runEnd isDigit line c → (c < top) × (top ≤ length line)
-digits-top line c start top h e = (h, omega (arith, run-inside digit line c (omega arith)))
+pub digits-top : (line : List ℕ) (c : ℕ) → c < length line → (top : ℕ) → top ≡ runEnd isDigit line c → top ≤ length line
+digits-top line c start top e = omega (arith, run-inside digit line c (omega arith))
 
 module _ (line before after : List ℕ) (c : ℕ) (made : Made line before (c + 1)) (start : c < length line) where
   pub greedy-copied : {r : Bool} (later : ℕ) → r ≡ isWhitespace (byteAt line c) → r ≡ true → later ≡ (length line + 1) * (length line + 1) + (c + 1) * (length line + 1)
@@ -304,13 +303,13 @@ module _ (line before after : List ℕ) (c : ℕ) (made : Made line before (c + 
         → Lays before between ((length line + 1) * (length line + 1) + c * (length line + 1)) 0 (top + 1) (λ (l : ℕ). byteOf (upTo c top l))
         → Lays between after ((length line + 1) * (length line + 1) + c * (length line + 1)) (top + 1) (length line + 1) (λ (l : ℕ). top) → RowLaid line before after Greedy c
     greedy-ends between top e h first second =
-        let (more, inside) = digits-top line c start top h e in
+        let inside = digits-top line c start top e in
         let here = run-some digit line c (omega arith) in
         row-ends line before between after Greedy c c top
         (λ l. up-greatest c top l (Digits line c)
         (λ d a b. word-each line c digit here d a (omega arith))
         (λ d x. let (a, b) = word-only line c digit (sym q ∙ f) d x in (a, omega arith)))
-        more inside first second
+        h inside first second
 
 -- ---- what each call asks
 

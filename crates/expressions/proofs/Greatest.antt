@@ -1,12 +1,11 @@
 -- The greatest end within a limit: there is one at most, and one that is greatest among all ends.
 use mathlib.Core.Path.{_≡_, refl, sym, ap, _∙_, subst}
-use mathlib.Core.Logic.{_⊎_, inl, inr, ⊎-elim}
-use mathlib.Core.Bool.{Bool, true, false}
-use mathlib.Core.Option.{Option, none, some, Option·none-ne-some, Option·some-inj}
+use mathlib.Core.Logic.{_⊎_, ⊎-elim}
+use mathlib.Core.Bool.{Bool}
+use mathlib.Core.Option.{Option, none, some}
 use Prim.Native.Nat.{ℕ, _≤_, _<_, min}
 use native.Mathlib.Decide.{decLt}
 use native.Mathlib.Omega.{arith}
-use lib.Dec.{ltb}
 use borrow.Author.Tests.{lt-ltb, le-ltb}
 use Rattle.plain.specs.Choice.{select}
 use Rattle.line.specs.Line.{orElse}
@@ -27,10 +26,6 @@ module _ (End : ℕ → Type 0) (l : ℕ) where
   greatest-one (some d) (some e) a b =
       let same : d ≡ e = omega (arith, a .greatest e (b .ends) (b .within), b .greatest d (a .ends) (a .within)) in
       ap {B = Option ℕ} some same
-
-  pub greatest-ends : (o : Option ℕ) → Greatest End l o → (e : ℕ) → o ≡ some e → End e
-  greatest-ends none g e q = absurd (Option·none-ne-some e q)
-  greatest-ends (some d) g e q = subst End (Option·some-inj .0 q) (g .ends)
 
   -- ends that are the same have the same greatest one
   pub greatest-map : (Other : ℕ → Type 0) → ((e : ℕ) → End e → Other e) → ((e : ℕ) → Other e → End e)

@@ -1,7 +1,7 @@
 -- The ends that are computed are the grammar's: a row from later rows, so every row, and with it free and greedy.
 use mathlib.Core.Path.{_≡_, refl, sym, ap, _∙_, subst}
 use mathlib.Core.Logic.{_⊎_, inl, inr, ⊎-elim}
-use mathlib.Core.Bool.{Bool, true, false, _||_}
+use mathlib.Core.Bool.{Bool, true, false}
 use mathlib.Core.List.{List}
 use mathlib.Core.Option.{Option, none, some, Option·none-ne-some, Option·some-inj}
 use Prim.Native.Nat.{ℕ, zero, suc, _+_, _≤_, _<_}
@@ -9,15 +9,15 @@ use native.Mathlib.Decide.{decLt}
 use native.Mathlib.Omega.{arith}
 use lib.ListN.{length}
 use Rattle.plain.specs.Choice.{select}
-use Rattle.plain.proofs.Tests.{tested, not-both, or-cases, or-false-left, or-false-right}
+use Rattle.plain.proofs.Tests.{not-both, or-cases, or-false-left, or-false-right}
 use Rattle.token.specs.Token.{isWhitespace}
 use Rattle.syntax.specs.Walker.{byteAt}
 use Rattle.line.specs.Line.{orElse}
-use Rattle.expressions.specs.Grammar.{isDigit, isLetter, isAlnum, isOperator, isMinus, isOpener, isCloser, Begins, Sign, Digits, Term, Expr, term, joined}
+use Rattle.expressions.specs.Grammar.{isDigit, isLetter, isAlnum, isOperator, isMinus, isOpener, isCloser, Begins, Digits, Term, Expr, term, joined}
 use Rattle.expressions.specs.Ends.{tokenAt, signAt, runEnd, upTo, Row, noRow, TermAt, closedAt, closedAfter, termAt, joinedAt, termRow, changesNone, rowOf, rowFrom, startsAfter, free, greedy}
 use Rattle.expressions.specs.Filling.{WholeIs, TermEnds}
 use Rattle.expressions.proofs.Bytes.{digit, operator, closer, operator-parts, closer-parts, operator-no-closer}
-use Rattle.expressions.proofs.Tokens.{begins-once, begins-there, begins-nowhere, begins-at, token-begins, token-from}
+use Rattle.expressions.proofs.Tokens.{begins-once, begins-there, begins-nowhere, token-begins}
 use Rattle.expressions.proofs.Spans.{term-span, expr-span}
 use Rattle.expressions.proofs.Runs.{RunEnds, run-is}
 use Rattle.expressions.proofs.Starts.{past-white, before-white, past-minus, before-minus, digits-end, name-ends, opener-only, parens-end, no-term}

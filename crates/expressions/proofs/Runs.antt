@@ -1,5 +1,5 @@
 -- Runs of bytes of a kind: where they end, and how a start's run follows from the next one's.
-use mathlib.Core.Path.{_≡_, refl, sym, ap, _∙_, subst}
+use mathlib.Core.Path.{_≡_, refl, sym, ap, _∙_}
 use mathlib.Core.Bool.{Bool, true, false}
 use mathlib.Core.List.{List}
 use Prim.Native.Nat.{ℕ, zero, suc, _+_, _-_, _≤_, _<_}
@@ -47,15 +47,7 @@ module _ {kind : ℕ → Bool} (k : Kind kind) (line : List ℕ) where
   unfolding runEnd
   run-is c = run-from (length line - c) c (omega arith)
 
-  -- a run ends at one place
-  pub run-one : {c d e : ℕ} → RunEnds kind line c d → RunEnds kind line c e → d ≡ e
-  run-one {c} {d} {e} a b =
-      elim (decLt d e) [
-        | yes h ↦ absurd (not-both (b .run d (a .from) h) (a .ends))
-        | no h ↦ elim (decLt e d) [ yes g ↦ absurd (not-both (a .run e (b .from) g) (b .ends)) | no g ↦ omega (arith, h, g) ]
-      ]
-
-  -- which lies in the line
+  -- it lies in the line
   pub run-inside : (c : ℕ) → c ≤ length line → runEnd kind line c ≤ length line
   run-inside c h =
       let r = run-is c in

@@ -1,13 +1,13 @@
 -- An end lies past its start and within the line, and follows a byte that is no whitespace.
-use mathlib.Core.Path.{_≡_, sym, ap, _∙_}
-use mathlib.Core.Bool.{Bool, true, false}
+use mathlib.Core.Path.{_≡_, ap, _∙_}
+use mathlib.Core.Bool.{Bool, false}
 use mathlib.Core.List.{List}
-use Prim.Native.Nat.{ℕ, suc, _-_, _≤_, _<_}
+use Prim.Native.Nat.{ℕ, _-_, _≤_, _<_}
 use native.Mathlib.Omega.{arith}
 use lib.ListN.{length}
 use Rattle.token.specs.Token.{isWhitespace}
 use Rattle.syntax.specs.Walker.{byteAt}
-use Rattle.expressions.specs.Grammar.{Begins, Sign, Word, Term, digits, name, minus, parens, Expr, term, joined}
+use Rattle.expressions.specs.Grammar.{Sign, Word, Term, digits, name, minus, parens, Expr, term, joined}
 use Rattle.expressions.proofs.Bytes.{Kind, solid, digit, alnum, minus-sign, opener, closer, operator}
 use Rattle.expressions.proofs.Tokens.{inside}
 

@@ -1,23 +1,21 @@
 -- What the byte at a start decides. Whitespace and a minus change no end: the ends are those of the start after them. A
 -- digit, a letter and an opener begin a term of their own; no other byte begins any.
 use mathlib.Core.Path.{_≡_, refl, sym, ap, _∙_, subst}
-use mathlib.Core.Logic.{⊎-elim}
 use mathlib.Core.Bool.{Bool, true, false}
 use mathlib.Core.List.{List}
-use Prim.Native.Nat.{ℕ, suc, _+_, _≤_, _<_}
+use Prim.Native.Nat.{ℕ, suc, _≤_, _<_}
 use native.Mathlib.Decide.{decLt}
 use native.Mathlib.Omega.{arith}
-use lib.ListN.{length}
 use Rattle.plain.proofs.Tests.{not-both}
 use Rattle.token.specs.Token.{isWhitespace}
 use Rattle.syntax.specs.Walker.{byteAt}
-use Rattle.expressions.specs.Grammar.{isDigit, isLetter, isAlnum, isOperator, isMinus, isOpener, isCloser, Begins, Sign, Word, Digits, Name, Term, digits, name, minus, parens, Expr, term, joined}
+use Rattle.expressions.specs.Grammar.{isDigit, isLetter, isAlnum, isMinus, isOpener, isCloser, Begins, Sign, Word, Digits, Name, Term, digits, name, minus, parens, Expr, term, joined}
 use Rattle.expressions.specs.Ends.{runEnd}
 use Rattle.expressions.specs.Filling.{Parts, TermEnds}
-use Rattle.expressions.proofs.Bytes.{Kind, solid, digit-is, letter-is, minus-is, opener-is, digit, letter, alnum, minus-sign, opener, closer, operator, digit-alnum, letter-alnum}
+use Rattle.expressions.proofs.Bytes.{Kind, solid, digit-is, letter-is, minus-is, opener-is, digit, letter, alnum, minus-sign, opener, closer, digit-alnum, letter-alnum}
 use Rattle.expressions.proofs.Tokens.{inside, begins-here, byte-here, here-begins, begins-on, begins-back, begins-once}
 use Rattle.expressions.proofs.Spans.{expr-span}
-use Rattle.expressions.proofs.Runs.{RunEnds, run-is, run-inside, run-more}
+use Rattle.expressions.proofs.Runs.{run-is, run-inside, run-more}
 
 -- an expression from c is one from d, if each term is
 pub expr-map : {line : List ℕ} {c d : ℕ} → ((e : ℕ) → Term line c e → Term line d e) → (e : ℕ) → Expr line c e → Expr line d e

@@ -1,22 +1,20 @@
 -- Where tokens begin. A kind of bytes that are no whitespace marks one place after a start, and that is where the scan over
 -- whitespace stops.
 use mathlib.Core.Path.{_≡_, refl, sym, ap, _∙_, subst}
-use mathlib.Core.Logic.{⊎-elim}
 use mathlib.Core.Bool.{Bool, true, false}
 use mathlib.Core.List.{List, []}
-use mathlib.Core.Option.{Option, none, some, Option·none-ne-some, Option·some-ne-none, Option·some-inj}
-use Prim.Native.Nat.{ℕ, zero, suc, _+_, _-_, _≤_, _<_}
+use mathlib.Core.Option.{none, some, Option·none-ne-some, Option·some-ne-none, Option·some-inj}
+use Prim.Native.Nat.{ℕ, suc, _+_, _≤_, _<_}
 use native.Mathlib.Decide.{decLt, ℕ-discrete}
 use native.Mathlib.Omega.{arith}
 use lib.ListN.{length, take, drop-of-length-le, List·getD-eq-default}
 use lib.Seq.{slice, length-take-le}
 use Rattle.plain.specs.Choice.{select}
-use Rattle.plain.proofs.Tests.{tested, not-both}
+use Rattle.plain.proofs.Tests.{not-both}
 use Rattle.token.specs.Token.{isWhitespace}
 use Rattle.syntax.specs.Walker.{byteAt, skipped, usefulFrom, useful}
-use Rattle.syntax.specs.declared.walker.Walker.{Walker}
 use Rattle.syntax.proofs.Useful.{useful-end, useful-here, useful-later, useful-is, useful-one}
-use Rattle.expressions.specs.Grammar.{Begins, Sign, Word}
+use Rattle.expressions.specs.Grammar.{Begins}
 use Rattle.expressions.specs.Ends.{tokenAt, signAt}
 use Rattle.expressions.proofs.Bytes.{Kind, solid, past}
 
@@ -90,12 +88,6 @@ module _ {kind : ℕ → Bool} (k : Kind kind) (line : List ℕ) (c : ℕ) where
       go : (t : Bool) → kind (byteAt line (tokenAt line c)) ≡ t → select t (some (tokenAt line c)) none ≡ none → ⊥
       go true h q = Option·some-ne-none (tokenAt line c) q
       go false h q = not-both (b .here) (ap (λ (n : ℕ). kind (byteAt line n)) (begins-once p b) ∙ h)
-
-  pub begins-at : (p : ℕ) → Begins kind line c p → signAt kind line c ≡ some p
-  unfolding signAt
-  begins-at p b =
-      ap (λ (t : Bool). select t (some (tokenAt line c)) none) (ap (λ (n : ℕ). kind (byteAt line n)) (sym (begins-once p b)) ∙ b .here)
-      ∙ ap {B = Option ℕ} some (sym (begins-once p b))
 
 -- ---- a start whose byte is no whitespace, and one whose byte is
 

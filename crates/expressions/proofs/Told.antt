@@ -1,18 +1,17 @@
 -- What the code's tests of a start tell, over plain values, with premises in the code's form.
-use mathlib.Core.Path.{_≡_, refl, sym, ap, ap₂, _∙_}
+use mathlib.Core.Path.{_≡_, sym, ap, ap₂, _∙_}
 use mathlib.Core.Bool.{Bool, true, false, _||_}
 use mathlib.Core.List.{List}
 use mathlib.Core.Option.{Option, none, some}
-use Prim.Native.Nat.{ℕ, suc, _+_, _≤_, _<_}
+use Prim.Native.Nat.{ℕ, _+_, _≤_, _<_}
 use native.Mathlib.Numerals.{add-one}
 use native.Mathlib.Omega.{arith}
-use lib.Dec.{eqb}
-use lib.ListN.{length}
 use borrow.Author.Tests.{eq-eqb, ne-eqb}
 use Rattle.plain.specs.Choice.{select}
 use Rattle.token.specs.Token.{isWhitespace}
 use Rattle.syntax.specs.Walker.{byteAt}
 use Rattle.extents.specs.Sheet.{entryEnd}
+use Rattle.extents.proofs.Reading.{end-some}
 use Rattle.expressions.specs.Grammar.{isDigit, isLetter, isAlnum, isMinus, isOpener, isCloser}
 use Rattle.expressions.specs.Ends.{tokenAt, signAt, runEnd, TermAt, closedAt, closedAfter, changesNone, termAt}
 use Rattle.expressions.specs.Filling.{Reaches}
@@ -45,11 +44,8 @@ module _ (line : List ℕ) (inner : ℕ) where
   closed-nothing h = sym (ap (λ (x : Bool). closedAfter line (select x none (some inner))) (eq-eqb inner 255 h))
 
   module _ (is : inner ≡ 255 → ⊥) where
-    inner-is : entryEnd inner ≡ some inner
-    inner-is = ap (λ (x : Bool). select x none (some inner)) (ne-eqb inner 255 is)
-
     after-is : (o : Option ℕ) → signAt isCloser line inner ≡ o → closedAt o ≡ closedAfter line (entryEnd inner)
-    after-is o e = sym (ap (closedAfter line) inner-is ∙ ap closedAt e)
+    after-is o e = sym (ap (closedAfter line) (sym (end-some inner is)) ∙ ap closedAt e)
 
     module _ (t b : ℕ) (token : t ≡ tokenAt line inner) (byte : b ≡ byteAt line t) where
       pub closed-not : (b ≡ 41 → ⊥) → none ≡ closedAfter line (entryEnd inner)

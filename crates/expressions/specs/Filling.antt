@@ -22,7 +22,7 @@ pub record Lays (before after : List ℕ) (at from to : ℕ) (f : ℕ → ℕ) :
   pub here : (l : ℕ) → from ≤ l → l < to → getD after (at + l) 0 ≡ f l
   pub beside : (i : ℕ) → (i < at + from) ⊎ (at + to ≤ i) → getD after i 0 ≡ getD before i 0
 
--- an expression from c that a closer follows ends here, and what ends here is one
+-- an expression from c that a closer follows ends here, if anywhere; and an expression from c ends here
 pub record WholeIs (line : List ℕ) (c : ℕ) (o : Option ℕ) : Type 0 where
   pub ends : (m : ℕ) → o ≡ some m → Expr line c m
   pub only : (m p : ℕ) → Expr line c m → Begins isCloser line m p → o ≡ some m

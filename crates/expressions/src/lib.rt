@@ -1,7 +1,7 @@
 // The extent sheet of a line, filled from the line itself: order 5's grammar of delta expressions. It is added by the port:
 // the Rust's expression parsers are not in its published text. Starts go from the line's end to its beginning, and each is
-// judged by its byte and by what is known of later starts, so nesting costs no recursion and no byte is read twice. It refuses
-// a bad line (3), then a sheet of the wrong length (18), and leaves the sheet unchanged in both.
+// judged by its byte and by what is known of later starts, so nesting costs no recursion and no word is gone over twice. It
+// refuses a bad line (3), then a sheet of the wrong length (18), and leaves the sheet unchanged in both.
 use line::LineCheck;
 ghost use mathlib.Core.Path.{_≡_};
 ghost use mathlib.Core.Bool.{true};
@@ -94,7 +94,7 @@ fn next_or(more: bool, next: usize, own: usize) -> usize
     if more { next } else { own }
 }
 
-// How far they reach from a start, by its byte and the next start's reach.
+// How far digits, and letters and digits, reach from a start, by its byte and the next start's reach.
 fn reach_at(b: u8, c: usize, next: Reach) -> Reach
     ensures { λ r. ⌜ (r .digits ≡ select (isDigit b) (next .digits) c) × (r .names ≡ select (isAlnum b) (next .names) c) ⌝ }
 {
@@ -296,8 +296,8 @@ fn lay_greedy(line: &[u8], sheet: &mut [u8], c: usize, white: bool, digits: usiz
     lay(sheet, row, digits + 1, side, digits as u8);
 }
 
-// Fills the sheet of a line of at most 120 bytes. Of each start are kept where its expression is whole and where the next token
-// begins, and of the last one how far it reaches.
+// Fills the sheet of a line of at most 120 bytes. Of each start is kept where its expression is whole and where the next
+// token begins, and of the latest start how far it reaches.
 fn fill(line: &[u8], sheet: &mut [u8])
     requires { ⌜ length (now line) ≤ 120 ⌝ }
     requires { ⌜ sized (now sheet) (length (now line)) ≡ true ⌝ }

@@ -5,7 +5,7 @@ use mathlib.Core.Logic.{⊎-elim}
 use mathlib.Core.Bool.{true}
 use mathlib.Core.List.{List}
 use mathlib.Core.Option.{none}
-use Prim.Native.Nat.{ℕ, _≤_}
+use Prim.Native.Nat.{ℕ}
 use native.Mathlib.Omega.{arith}
 use lib.ListN.{length}
 use denote.Ref.{now}
@@ -16,9 +16,9 @@ use Rattle.line.proofs.Lines.{good-is}
 use Rattle.defs.specs.Table.{tableFits}
 use Rattle.extents.specs.Sheet.{sheetFits}
 use Rattle.expressions.specs.Sheet.{sheetOf}
-use Rattle.expressions.specs.Call.{FillCall, bad-line, bad-room, filled, filledWith}
+use Rattle.expressions.specs.Call.{filledWith}
 use Rattle.expressions.specs.declared.Filling.the-variants.{Filled}
-use Rattle.expressions.proofs.Called.{filled-is}
+use Rattle.expressions.proofs.Called.{filled-good, filled-is}
 use Rattle.expressions.proofs.fill_sheet.Reads as fill-sheet
 use Rattle.readings.specs.Scene.{Scene, sceneOf}
 use Rattle.readings.specs.Call.{Accepted, budgetFits, callWith}
@@ -42,12 +42,6 @@ module _ (order : Scene → List (ℕ × ℕ)) (t line sheet : List ℕ) (budget
 
   pub never-four : callWith order t line sheet budget b .number ≡ 4 → ⊥
   never-four e = not-four (exactly order t line sheet budget b 4 .0 e)
-
--- what filling leaves: a good line, and its sheet
-filled-good : (line sheet : List ℕ) (r : Told) → FillCall line sheet r → r .number ≡ 0 → faultAt line ≡ none
-filled-good line sheet r (bad-line p e a) z = let w : _≡_ {A = ℕ} 3 0 = sym (ap (λ (t : Told). t .number) a) ∙ z in absurd (omega arith)
-filled-good line sheet r (bad-room e y a) z = e
-filled-good line sheet r (filled t e y d a) z = e
 
 -- demand 3 over the readings of the line, from what is promised on its sheet
 module _ (t line sheet : List ℕ) (good : faultAt line ≡ none) (is : sheet ≡ sheetOf line) (fits : sheetFits sheet (length line) ≡ true) where

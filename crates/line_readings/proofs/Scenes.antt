@@ -1,10 +1,10 @@
 -- The scene of a line is the scene of its filled sheet, so the readings of the one are those of the other; and its ends are
 -- the grammar's.
-use mathlib.Core.Path.{_≡_, refl, sym, ap, _∙_, subst}
+use mathlib.Core.Path.{_≡_, sym, ap, _∙_, subst}
 use mathlib.Core.Logic.{_↔_}
-use mathlib.Core.Bool.{Bool, true, false}
+use mathlib.Core.Bool.{Bool}
 use mathlib.Core.List.{List, []}
-use mathlib.Core.Option.{Option, none, some, Option·none-ne-some, Option·some-inj}
+use mathlib.Core.Option.{none}
 use Prim.Native.Nat.{ℕ, _≤_, _<_}
 use native.Mathlib.Decide.{decLt}
 use native.Mathlib.Omega.{arith}
@@ -21,7 +21,6 @@ use Rattle.extents.specs.declared.Half.{Half}
 use Rattle.extents.specs.declared.Half.the-variants.{Free, Greedy}
 use Rattle.extents.specs.Sheet.{sized, readable, endIn}
 use Rattle.extents.proofs.Reading.{unread}
-use Rattle.expressions.specs.Grammar.{Expr, Digits, GreatestEnd}
 use Rattle.expressions.specs.Sheet.{EndIn, endFor, sheetOf}
 use Rattle.expressions.proofs.Greatest.{Greatest, greatest-one}
 use Rattle.expressions.proofs.Entries.{end-is, end-span, end-back}
@@ -35,13 +34,9 @@ module _ (line : List ℕ) (half : Half) (c l : ℕ) where
   unfolding endWithin
   in-line h = ap (λ (b : Bool). select b (endFor line half c l) none) (le-leb l (length line) h)
 
-  -- an end that a scene of the line gives is the greatest that the grammar allows
-  pub end-declared : l ≤ length line → (e : ℕ) → (endWithin line half c l ≡ some e) ↔ GreatestEnd (EndIn half line c) l e
-  end-declared h e = (λ q. forth (endFor line half c l) (end-is line half c l) (sym (in-line h) ∙ q), λ g. in-line h ∙ greatest-one (EndIn half line c) l (endFor line half c l) (some e) (end-is line half c l) g)
-    where
-      forth : (o : Option ℕ) → Greatest (EndIn half line c) l o → o ≡ some e → GreatestEnd (EndIn half line c) l e
-      forth none g q = absurd (Option·none-ne-some e q)
-      forth (some d) g q = subst (GreatestEnd (EndIn half line c) l) (Option·some-inj .0 q) g
+  -- the end that a scene of the line gives is the greatest that the grammar allows, and it gives none only if there is none
+  pub end-declared : l ≤ length line → Greatest (EndIn half line c) l (endWithin line half c l)
+  end-declared h = subst (Greatest (EndIn half line c) l) (sym (in-line h)) (end-is line half c l)
 
   -- none lies below its start
   below : l < c → endFor line half c l ≡ none

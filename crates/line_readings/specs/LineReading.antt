@@ -1,5 +1,6 @@
 -- What a reading of a line is: a reading with the grammar in place of a sheet. An expression part asks for the greatest end
--- within a limit of an expression, or of digits, that begins at the cursor; every limit is a place of the line.
+-- within a limit of an expression, or of digits, that begins at the cursor; every limit is a place of the line. A scene has
+-- functions, so these ends are computed; that they are the grammar's is the law `end-declared`.
 use mathlib.Core.List.{List, []}
 use mathlib.Core.Option.{Option, none}
 use Prim.Native.Nat.{ℕ}

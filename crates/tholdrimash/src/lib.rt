@@ -1,6 +1,6 @@
 // The C interface: `include/tholdrimash.h` declares these functions, and documents every number and field. Each is one call
-// of `matcher`, `resolver`, `listing`, `expressions` or `program`, with the answer's number and fields as a C struct; a slice is a pointer
-// and a length.
+// of `matcher`, `resolver`, `listing`, `expressions` or `program`, with the answer's number and fields as a C struct; a slice
+// is a pointer and a length.
 use expressions::Filling;
 use listing::reading::ReadAnswer;
 use listing::writing::WriteAnswer;

@@ -3,7 +3,6 @@ use mathlib.Core.Path.{refl}
 use native.Mathlib.Omega.{arith}
 use denote.Ref.{now}
 use borrow.Author.Needs.{needs}
-use borrow.Author.Needs.{needs}
 use Rattle.line.proofs.Faults.{fault-small, line-good, line-bad}
 use Rattle.expressions.proofs.Called.{short, square, line-refused, room-refused, good-room, sheet-filled}
 use Rattle.expressions.proofs.fill_sheet.Statement.{statement}

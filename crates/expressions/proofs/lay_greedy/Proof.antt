@@ -44,16 +44,16 @@ returns-2 : tie.Need-returns-2
 returns-2 c = greedy-none (now (c .before .before .before .before .before .before .before .before .args .line)) (now (c .before .before .before .before .before .before .before .before .args .sheet)) (c .before .before .lay .last .0) (c .before .before .before .before .before .before .before .before .args .c) (c .before .before .before .before .before .before .before .before .pre .0) (c .before .before .before .before .before .before .before .before .pre .1 .0) (c .before .before .before .before .before .before .before .before .pre .1 .1 .0) (c .before .before .before .before .before .if1 .left) (c .before .before .before .before .before .before .before .before .args .digits) (c .before .before .before .before .before .before .before .before .pre .1 .1 .1) (c .before .before .before .before .if2 .taken) (c .before .before .lay .ensures)
 
 lay-ends-requires : tie.Need-lay-ends-requires
-lay-ends-requires c κs = let (more, inside) = digits-top (now (c .before .before .before .before .before .args .line)) (c .before .before .before .before .before .args .c) (c .before .before .before .before .before .pre .1 .0) (c .before .before .before .before .before .args .digits) (c .before .if2 .left) (c .before .before .before .before .before .pre .1 .1 .1) in (digits-room (now (c .before .before .before .before .before .args .line)) (now (c .before .before .before .before .before .args .sheet)) (c .before .before .before .before .before .args .c) (c .before .before .before .before .before .pre .0) (c .before .before .before .before .before .pre .1 .0) (c .before .before .before .before .before .args .digits) inside, (more, omega (arith, inside, c .before .before .before .before .before .pre .0 .short)))
+lay-ends-requires c κs = let inside = digits-top (now (c .before .before .before .before .before .args .line)) (c .before .before .before .before .before .args .c) (c .before .before .before .before .before .pre .1 .0) (c .before .before .before .before .before .args .digits) (c .before .before .before .before .before .pre .1 .1 .1) in (digits-room (now (c .before .before .before .before .before .args .line)) (now (c .before .before .before .before .before .args .sheet)) (c .before .before .before .before .before .args .c) (c .before .before .before .before .before .pre .0) (c .before .before .before .before .before .pre .1 .0) (c .before .before .before .before .before .args .digits) inside, (c .before .if2 .left, omega (arith, inside, c .before .before .before .before .before .pre .0 .short)))
 
 add-lay : tie.Need-add-lay
-add-lay c = let (more, inside) = digits-top (now (c .before .before .before .before .before .before .before .before .before .args .line)) (c .before .before .before .before .before .before .before .before .before .args .c) (c .before .before .before .before .before .before .before .before .before .pre .1 .0) (c .before .before .before .before .before .before .before .before .before .args .digits) (c .before .before .before .before .before .if2 .left) (c .before .before .before .before .before .before .before .before .before .pre .1 .1 .1) in omega (arith, inside, c .before .before .before .before .before .before .before .before .before .pre .0 .short)
+add-lay c = let inside = digits-top (now (c .before .before .before .before .before .before .before .before .before .args .line)) (c .before .before .before .before .before .before .before .before .before .args .c) (c .before .before .before .before .before .before .before .before .before .pre .1 .0) (c .before .before .before .before .before .before .before .before .before .args .digits) (c .before .before .before .before .before .before .before .before .before .pre .1 .1 .1) in omega (arith, inside, c .before .before .before .before .before .before .before .before .before .pre .0 .short)
 
 cast-lay : tie.Need-cast-lay
-cast-lay c = let (more, inside) = digits-top (now (c .before .before .before .before .before .before .before .before .before .args .line)) (c .before .before .before .before .before .before .before .before .before .args .c) (c .before .before .before .before .before .before .before .before .before .pre .1 .0) (c .before .before .before .before .before .before .before .before .before .args .digits) (c .before .before .before .before .before .if2 .left) (c .before .before .before .before .before .before .before .before .before .pre .1 .1 .1) in omega (arith, inside, c .before .before .before .before .before .before .before .before .before .pre .0 .short)
+cast-lay c = let inside = digits-top (now (c .before .before .before .before .before .before .before .before .before .args .line)) (c .before .before .before .before .before .before .before .before .before .args .c) (c .before .before .before .before .before .before .before .before .before .pre .1 .0) (c .before .before .before .before .before .before .before .before .before .args .digits) (c .before .before .before .before .before .before .before .before .before .pre .1 .1 .1) in omega (arith, inside, c .before .before .before .before .before .before .before .before .before .pre .0 .short)
 
 lay-requires-2 : tie.Need-lay-requires-2
-lay-requires-2 c κs = let (more, inside) = digits-top (now (c .before .before .before .before .before .before .before .before .before .args .line)) (c .before .before .before .before .before .before .before .before .before .args .c) (c .before .before .before .before .before .before .before .before .before .pre .1 .0) (c .before .before .before .before .before .before .before .before .before .args .digits) (c .before .before .before .before .before .if2 .left) (c .before .before .before .before .before .before .before .before .before .pre .1 .1 .1) in (omega (arith, inside), one-row (now (c .before .before .before .before .before .before .before .before .before .args .line)) (now (c .before .before .before .before .before .before .before .before .before .args .sheet)) (c .before .before .before .before .before .before .before .before .before .args .c) (c .before .before .before .before .before .before .before .before .before .pre .0) (c .before .before .before .before .before .before .before .before .before .pre .1 .0) Greedy (c .before .before .before .lay-ends .last .0) (c .before .before .before .lay-ends .ensures .long))
+lay-requires-2 c κs = let inside = digits-top (now (c .before .before .before .before .before .before .before .before .before .args .line)) (c .before .before .before .before .before .before .before .before .before .args .c) (c .before .before .before .before .before .before .before .before .before .pre .1 .0) (c .before .before .before .before .before .before .before .before .before .args .digits) (c .before .before .before .before .before .before .before .before .before .pre .1 .1 .1) in (omega (arith, inside), one-row (now (c .before .before .before .before .before .before .before .before .before .args .line)) (now (c .before .before .before .before .before .before .before .before .before .args .sheet)) (c .before .before .before .before .before .before .before .before .before .args .c) (c .before .before .before .before .before .before .before .before .before .pre .0) (c .before .before .before .before .before .before .before .before .before .pre .1 .0) Greedy (c .before .before .before .lay-ends .last .0) (c .before .before .before .lay-ends .ensures .long))
 
 same-length-3 : tie.Need-same-length-3
 same-length-3 c = c .before .before .lay2 .ensures .long ∙ c .before .before .before .before .before .before .lay-ends .ensures .long

@@ -1,6 +1,5 @@
 -- `term_at` meets its contract.
 use denote.Ref.{now}
-use borrow.Author.Needs.{needs}
 use Rattle.extents.specs.Sheet.{entryEnd}
 use Rattle.expressions.proofs.Told.{term-digit, term-letter, term-opener, term-nothing}
 use Rattle.expressions.proofs.term_at.Statement.{statement}
