@@ -1,12 +1,13 @@
 #!/usr/bin/env python3
-"""Does the comparison see an error? Builds wrong copies of the Rust, one error each, and compares the proved code with each.
+"""Does the comparison see an error? Builds wrong copies of the Rust, and of the grammar that filled sheets are held to, one
+error each, and compares the proved code with each.
 
     wrong.py [--text RUST_TEXT] [--cases N] [--seed S] [--only WORDS]
 
 Run it after `run`, which builds the program that it uses. The random cases alone are run, not the exhaustive short ones.
 An edit that no longer fits the text, or a copy that doesn't build, is an error, as is a copy that the comparison can't tell
-from the Rust; so is a difference from the Rust itself, which comes first. One copy is there because it changes nothing: it
-must not be told apart. Copies are made in a temporary folder and removed.
+from the Rust, or from the grammar; so is a difference from these themselves, which comes first. Two copies are there because
+they change nothing: they must not be told apart. Copies are made in a temporary folder and removed.
 """
 import argparse
 import pathlib
@@ -118,22 +119,83 @@ WRONG = [
 # The nested step puts the limit back after parse_with_lookahead has done so.
 REDUNDANT = ("the limit put back once, not twice", MATCHER, NESTED_BACK, "")
 
+GRAMMAR = "driver/grammar.rs"
 
-def compare(oracle, part, args):
+FREE_END = "self.expression(c).into_iter().max()"
+GREEDY_END = "self.word(c, is_digit, is_digit).into_iter().max()"
+NAME = "self.word(c, is_letter, goes_on)"
+LATER = "is_letter(byte) || is_digit(byte)"
+OPERATORS = 'b"+-*/&|"'
+ONE_MORE_END = "            ends.push(end);\n"
+ENCLOSED = "let inner = self.expression(inner);\n"
+CLOSED = 'filter_map(|end| self.sign(end, b")"))'
+TOKEN = "model::useful(self.line, c, self.line.len())"
+ENTRY = "byte(search.free(c));"
+WORD_ENDS = "            is_next = later;\n        }\n        ends\n"
+
+# The same of the grammar.
+WRONG_GRAMMAR = [
+    # which end
+    ("the least end", GRAMMAR, FREE_END, FREE_END.replace("max", "min")),
+    ("an end after the whitespace that follows", GRAMMAR, FREE_END, FREE_END + ".map(|end| self.token(end))"),
+    ("the limit ignored", GRAMMAR, "Search::under(line, l)", "Search::under(line, line.len())"),
+    ("no end where the limit cuts a word", GRAMMAR, ENTRY,
+     "byte(search.free(c).filter(|e| *e == line.len() || !goes_on(line[*e - 1]) || !goes_on(line[*e])));"),
+    ("0 where the start lies above the limit", GRAMMAR, "vec![255; 2 * side * side]", "vec![0; 2 * side * side]"),
+    ("an operator at the end counted", GRAMMAR, "ends.extend(self.expression(next));",
+     "ends.push(next);\nends.extend(self.expression(next));"),
+    ("no end before an operator", GRAMMAR, ONE_MORE_END,
+     f"if self.sign(end, {OPERATORS}).is_none() {{ ends.push(end); }}\n"),
+    # terms and tokens
+    ("a digit begins a name", GRAMMAR, NAME, "self.word(c, goes_on, goes_on)"),
+    ("a name of letters alone", GRAMMAR, NAME, "self.word(c, is_letter, is_letter)"),
+    ("a name of lower case alone", GRAMMAR, "contains(&model::lowered(byte))", "contains(&byte)"),
+    ("an underscore in a name", GRAMMAR, LATER, LATER + " || byte == b'_'"),
+    ("a minus between terms alone", GRAMMAR, 'self.sign(c, b"-")', 'self.sign(c, b"")'),
+    ("a plus before a term", GRAMMAR, 'self.sign(c, b"-")', 'self.sign(c, b"-+")'),
+    ("empty parentheses", GRAMMAR, ENCLOSED, "let inner = [vec![inner], self.expression(inner)].concat();\n"),
+    ("a term alone in parentheses", GRAMMAR, ENCLOSED, "let inner = self.term(inner);\n"),
+    ("no whitespace before a closer", GRAMMAR, CLOSED, "filter(|e| self.line.get(*e) == Some(&b')')).map(|e| e + 1)"),
+    ("no closer at the limit", GRAMMAR, CLOSED,
+     'filter_map(|end| self.sign(end, b")").or((end == self.line.len()).then_some(end)))'),
+    ("square brackets as parentheses", GRAMMAR, ['self.sign(c, b"(")', 'b")"'], ['self.sign(c, b"([")', 'b")]"']),
+    ("parentheses 16 deep at most", GRAMMAR, ["    sought: Vec<", "sought: vec!", ENCLOSED],
+     ["    depth: usize,\n    sought: Vec<", "depth: 0,\n            sought: vec!",
+      "if self.depth == 16 {\nreturn ends;\n}\nself.depth += 1;\n" + ENCLOSED + "self.depth -= 1;\n"]),
+    ("a stroke joins nothing", GRAMMAR, OPERATORS, 'b"+-*/&"'),
+    ("a caret joins terms", GRAMMAR, OPERATORS, 'b"+-*/&|^"'),
+    ("13 no whitespace before a token", GRAMMAR, TOKEN,
+     "(c..self.line.len()).find(|at| ![9, 32].contains(&self.line[*at])).unwrap_or(self.line.len())"),
+    # the greedy end
+    ("a greedy end of no digits", GRAMMAR, GREEDY_END, GREEDY_END + ".or(Some(self.token(c)))"),
+    ("a greedy end without whitespace skipped", GRAMMAR, GREEDY_END, GREEDY_END + ".filter(|_| self.token(c) == c)"),
+    ("a greedy end over a minus", GRAMMAR, GREEDY_END, GREEDY_END.replace("(c", '(self.sign(c, b"-").unwrap_or(c)')),
+    ("a greedy end over letters", GRAMMAR, GREEDY_END, GREEDY_END.replace("is_digit)", "goes_on)")),
+    # refusals
+    ("18 before 3", GRAMMAR, "= model::bad_line(line) {",
+     "= model::bad_line(line).filter(|_| room == 2 * (line.len() + 1) * (line.len() + 1)) {"),
+    ("a longer sheet will do", GRAMMAR, "sheet.len() != room", "sheet.len() > room"),
+]
+
+# Behind a word's earlier ends stands neither whitespace nor a sign, so that nothing goes on there.
+REDUNDANT_END = ("the last end of a word alone", GRAMMAR, WORD_ENDS,
+                 WORD_ENDS.replace("ends\n", "ends.split_off(ends.len().max(1) - 1)\n"))
+
+
+def compare(oracle, part, args, program=BUILT / "compare"):
     """Whether the comparison tells the copy apart: by a difference, or because the copy goes round until its stack is full,
     where the Rust ends. Any other failure stops this program."""
-    words = [BUILT / "compare", "--only", part, "--seed", args.seed, "--cases", str(args.cases), "--quick"]
+    words = [program, "--only", part, "--seed", args.seed, "--cases", str(args.cases), "--quick"]
     done = subprocess.run(words, env={"LD_LIBRARY_PATH": str(oracle)}, capture_output=True, text=True)
     if done.returncode not in (0, 1) and "overflowed its stack" not in done.stderr:
         sys.exit(f"wrong: the comparison failed: {done.returncode} {done.stderr}")
     return done.returncode != 0
 
 
-def copy_with(text, edit, folder):
-    """Builds the Rust with one edit; the folder that has the library."""
+def edit_in(folder, edit):
+    """Makes the edit in a copy of the text."""
     name, file, old, new = edit
-    shutil.copytree(text, folder / "src")
-    path = folder / "src" / file
+    path = folder / file
     path.chmod(0o644)
     source = path.read_text()
     for text, other in zip([old], [new]) if isinstance(old, str) else zip(old, new):
@@ -141,10 +203,40 @@ def copy_with(text, edit, folder):
             sys.exit(f"wrong: {name}: its text stands {source.count(text)} times in {file}")
         source = source.replace(text, other)
     path.write_text(source)
-    done = subprocess.run([HERE / "build", folder / "src", folder], capture_output=True, text=True)
+
+
+def build(edit, words):
+    done = subprocess.run(words, capture_output=True, text=True)
     if done.returncode:
-        sys.exit(f"wrong: {name}: does not build: {done.stderr}")
+        sys.exit(f"wrong: {edit[0]}: does not build: {done.stderr}")
+
+
+def copy_with(text, edit, folder):
+    """Builds the Rust with one edit; the folder that has the library."""
+    shutil.copytree(text, folder / "src")
+    edit_in(folder / "src", edit)
+    build(edit, [HERE / "build", folder / "src", folder])
     return folder
+
+
+def program_with(edit, folder):
+    """Builds the program that compares with one edit, as `run` does without."""
+    for part in ("oracle", "rust"):
+        shutil.copytree(HERE.parent / part, folder / part)
+    edit_in(folder / "oracle", edit)
+    build(edit, ["rustc", "--edition", "2021", "--crate-name", "compare", "-O", "-o", folder / "compare", "-L", BUILT,
+                 "-L", BUILT.parent / "staticlib", folder / "oracle" / "driver" / "main.rs"])
+    return folder / "compare"
+
+
+def seen_by(edit, folder, args):
+    """The parts of the comparison that tell the copy apart."""
+    if edit[1] == GRAMMAR:
+        program = program_with(edit, folder)
+        return [part for part in ["expressions"] if compare(BUILT, part, args, program)]
+    oracle = copy_with(args.text, edit, folder)
+    parts = ["selection"] if edit[1] == RESOLVER else MATCHING + GROUND
+    return [part for part in parts if compare(oracle, part, args)]
 
 
 def main():
@@ -157,17 +249,15 @@ def main():
 
     if not (BUILT / "compare").exists():
         sys.exit("wrong: run oracle/run first: it builds the program that compares")
-    if any(compare(BUILT, part, args) for part in GROUND + MATCHING + ["selection"]):
-        sys.exit("wrong: the proved code differs from the Rust itself")
+    if any(compare(BUILT, part, args) for part in GROUND + MATCHING + ["expressions", "selection"]):
+        sys.exit("wrong: the proved code differs from the Rust or the grammar itself")
 
     missed = 0
-    edits = [edit for edit in WRONG + [REDUNDANT] if args.only in edit[0]]
+    edits = [edit for edit in WRONG + [REDUNDANT] + WRONG_GRAMMAR + [REDUNDANT_END] if args.only in edit[0]]
     for edit in edits:
         with tempfile.TemporaryDirectory() as folder:
-            oracle = copy_with(args.text, edit, pathlib.Path(folder))
-            parts = ["selection"] if edit[1] == RESOLVER else MATCHING + GROUND
-            seen = [part for part in parts if compare(oracle, part, args)]
-        missed += bool(seen) == (edit is REDUNDANT)
+            seen = seen_by(edit, pathlib.Path(folder), args)
+        missed += bool(seen) == (edit in (REDUNDANT, REDUNDANT_END))
         print(f"{'seen by ' + ' and '.join(seen) if seen else 'not seen':53} {edit[0]}", flush=True)
     print(f"{len(edits)} copies, {missed} judged wrongly")
     return 1 if missed else 0

@@ -580,13 +580,14 @@ pub fn damaged_program(random: &mut Random, good: &ProgramCall) -> ProgramCall {
 // Lines of expressions.
 
 /// Thousandths: of tokens with whitespace before them, of terms in parentheses and after a minus, and of those that an operator
-/// follows.
+/// follows. Past the last length nothing more is opened or joined, so that what is open finds room to be closed.
 #[derive(Clone, Copy)]
 struct Manner {
     white: usize,
     inside: usize,
     minus: usize,
     joined: usize,
+    late: usize,
 }
 
 const MANNERS: [Manner; 6] = [
@@ -594,44 +595,47 @@ const MANNERS: [Manner; 6] = [
         white: 150,
         inside: 200,
         minus: 150,
-        joined: 500,
+        joined: 700,
+        late: 90,
     },
     Manner {
         white: 0,
         inside: 0,
         minus: 50,
-        joined: 980,
+        joined: 985,
+        late: 118,
+    },
+    Manner {
+        white: 5,
+        inside: 980,
+        minus: 10,
+        joined: 20,
+        late: 59,
     },
     Manner {
         white: 20,
-        inside: 970,
-        minus: 10,
-        joined: 30,
-    },
-    Manner {
-        white: 50,
-        inside: 20,
-        minus: 960,
-        joined: 100,
+        inside: 5,
+        minus: 980,
+        joined: 300,
+        late: 118,
     },
     Manner {
         white: 700,
         inside: 150,
         minus: 100,
-        joined: 700,
+        joined: 800,
+        late: 90,
     },
     Manner {
         white: 30,
         inside: 450,
         minus: 50,
         joined: 600,
+        late: 80,
     },
 ];
 
 const WORDS: [&[u8]; 10] = [b"1", b"0", b"42", b"907", b"a", b"Z", b"x1", b"stem", b"A9z", b"left"];
-
-/// Where an expression goes no deeper, so that what it has opened finds room to be closed.
-const LATE: usize = 70;
 
 fn put_white(random: &mut Random, line: &mut Vec<u8>, manner: Manner) {
     while random.chance(manner.white) {
@@ -641,7 +645,11 @@ fn put_white(random: &mut Random, line: &mut Vec<u8>, manner: Manner) {
 
 fn put_term(random: &mut Random, line: &mut Vec<u8>, manner: Manner) {
     put_white(random, line, manner);
-    let x = if line.len() < LATE { random.below(1000) } else { 1000 };
+    let x = if line.len() < manner.late {
+        random.below(1000)
+    } else {
+        1000
+    };
     if x < manner.inside {
         line.push(b'(');
         put_expression(random, line, manner);
@@ -657,7 +665,7 @@ fn put_term(random: &mut Random, line: &mut Vec<u8>, manner: Manner) {
 
 fn put_expression(random: &mut Random, line: &mut Vec<u8>, manner: Manner) {
     put_term(random, line, manner);
-    while line.len() < LATE && random.chance(manner.joined) {
+    while line.len() < manner.late && random.chance(manner.joined) {
         put_white(random, line, manner);
         line.push(*random.pick(b"+-*/&|"));
         put_term(random, line, manner);

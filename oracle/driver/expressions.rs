@@ -59,7 +59,7 @@ fn seen(report: &mut Report, line: &[u8], sheet: &[u8]) {
     let n = line.len();
     let (free, greedy) = sheet.split_at(sheet.len() / 2);
     let ends = |half: &[u8]| half.iter().filter(|end| **end != 255).count();
-    // The limit is past the end, at it, or cuts a token there.
+    // Free ends below their limit, and those where the limit parts two bytes that a word may have beside each other.
     let (mut short, mut cut) = (0, 0);
     for (at, end) in free.iter().enumerate().filter(|(_, end)| **end != 255) {
         let (end, limit) = (*end as usize, at % (n + 1));
@@ -69,7 +69,7 @@ fn seen(report: &mut Report, line: &[u8], sheet: &[u8]) {
     report.add("entries compared", sheet.len());
     report.add("  free ends", ends(free));
     report.add("  below the limit", short);
-    report.add("  where the limit cuts a token", cut);
+    report.add("  at a limit between two letters or digits", cut);
     report.add("  greedy ends", ends(greedy));
     report.see("lines of 100 bytes or more", n >= 100);
     report.see("lines with a byte 13", line.contains(&13));
@@ -102,8 +102,8 @@ pub fn numbers(report: &mut Report) {
     }
 }
 
-/// Every line of at most six bytes out of a digit, a letter, two signs, both parentheses and a space; and with every room up
-/// to three more than its sheet's, those of at most two.
+/// Every line of at most six bytes out of a digit, a letter, two signs, both parentheses and a space; and those of at most
+/// two with every room up to two more than their sheet's.
 pub fn short(report: &mut Report) {
     for line in cases::all_up_to(b"1a-+( )", 6) {
         compare(report, &line, room_for(&line));

@@ -102,7 +102,7 @@ pub fn sheet_of(line: &[u8]) -> Result<Vec<u8>, FillAnswer> {
 /// greedy(c, l) is the end of the longest run of decimal digits, of one at least, within the limit
 /// and over whitespace before it. 255 stands for none, and where c is above l.
 ///
-/// A caller whose expressions are others makes a sheet of his own:
+/// Where expressions are others, the caller makes the sheet:
 /// [`match_line`](crate::match_line#a-sheet-of-ones-own) says how.
 ///
 /// ```
