@@ -95,11 +95,11 @@ module _ (s : Scene) (l c : ℕ) where
 
   -- ---- span
 
-  pub span-declared : (e : ℕ) → Span s l c (start s l c e) e
-  span-declared e = record { place = usefulAt s l c; useful = useful-found; least = refl }
+  pub span-declared : (e : ℕ) → Span s l c e (s .base + start s l c e) (s .base + e)
+  span-declared e = record { place = usefulAt s l c; useful = useful-found; starts = refl; stops = refl }
 
-  pub span-found : (f e : ℕ) → Span s l c f e → f ≡ start s l c e
-  span-found f e p = p .least ∙ ap (min e) (useful-only (p .useful))
+  pub span-found : (e f g : ℕ) → Span s l c e f g → f ≡ s .base + start s l c e
+  span-found e f g p = p .starts ∙ ap (λ (n : ℕ). s .base + min e n) (useful-only (p .useful))
 
   -- ---- cut and limits
 
