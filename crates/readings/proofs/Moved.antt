@@ -251,7 +251,7 @@ module _ (s : Scene) (d : ℕ) where
       kept-map (λ t. eqb (exactCount s t) (greatestCount s (map (moved d) ts))) (λ t. eqb (exactCount s t) (greatestCount s ts)) (moved d) ts
       (λ t m. ap₂ eqb (count-moved s d t) (greatest-moved ts))
 
-  all-moved : (ts : List Tree) → length (allWords (map (moved d) ts)) ≡ length (allWords ts)
+  pub all-moved : (ts : List Tree) → length (allWords (map (moved d) ts)) ≡ length (allWords ts)
   unfolding allWords
   all-moved [] = refl
   all-moved (t ∷ ts) =
