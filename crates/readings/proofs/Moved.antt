@@ -19,6 +19,7 @@ use Rattle.readings.specs.Scene.{Scene, sceneOf, based}
 use Rattle.readings.specs.Plan.{Plan, give, visit, keep, deep, run, _then_, each, when, after, mapped}
 use Rattle.readings.specs.Walk.{Found, Match, Below, exactly, isGap, lookahead, cutBy, cutFor, listOf, freeUnder, candidates, unless, anySame, fresh, firsts, sameEnd, ends, limits, sameMatch, start, addExpr, addNest, named, walk, rulesetWalk, under, depths, trial, tries}
 use Rattle.readings.specs.Answer.{exactParts, exactCount, nestedCount, greatest, greatestCount, best, argCount, treeWords, argWords, allWords, wordsOf, answerWords}
+use Rattle.readings.specs.Call.{tree}
 use Rattle.readings.proofs.Runs.{mappedEnd, run-mapped}
 use Rattle.readings.proofs.Records.{kept-map}
 use Rattle.readings.proofs.Mapped.{mapped-then, then-mapped, mapped-each, mapped-when, mapped-after, mapped-mapped, each-map, each-same}
@@ -203,6 +204,10 @@ unfolding sceneOf based
 run-based t line sheet b xs v u =
     ap (λ (n : ℕ). run (tries (based n (sceneOf t line sheet)) xs) v u) (sym (add-zero b)) ∙ run-moved (sceneOf t line sheet) b 0 xs v u
 
+pub trees-moved : (d : ℕ) (ms : List Match) → map tree (map (movedMatch d) ms) ≡ map (moved d) (map tree ms)
+trees-moved d [] = refl
+trees-moved d (m ∷ ms) = ap (λ (l : List Tree). moved d (m .0) ∷ l) (trees-moved d ms)
+
 -- ---- what a moved tree keeps: its count, and how many words it has
 
 mutual
@@ -269,7 +274,7 @@ module _ (s : Scene) (d : ℕ) where
 
 module _ (s s′ : Scene) (parts : s .parts ≡ s′ .parts) where
   mutual
-    count-by : (t : Tree) → exactCount s t ≡ exactCount s′ t
+    pub count-by : (t : Tree) → exactCount s t ≡ exactCount s′ t
     count-by (node r k a) = ap₂ (λ (f : ℕ → ℕ → List Part) (n : ℕ). exactParts (f r k) + n) parts (nested-by a)
 
     nested-by : (a : Args) → nestedCount s a ≡ nestedCount s′ a

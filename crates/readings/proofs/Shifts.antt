@@ -30,7 +30,7 @@ use Rattle.readings.specs.Answer.{greatestCount, best, wordsOf, answerWo
 use Rattle.readings.specs.Call.{Accepted, tree, written, matched, ended, budgetFits, baseFits, callWith, scanCall, lookupCall}
 use Rattle.readings.specs.Shift.{answered, refused, Shifted}
 use Rattle.readings.proofs.Runs.{mappedEnd}
-use Rattle.readings.proofs.Moved.{movedMatch, run-moved, words-moved, many-moved, words-by}
+use Rattle.readings.proofs.Moved.{movedMatch, run-moved, trees-moved, words-moved, many-moved, words-by}
 use Rattle.readings.proofs.Calls.{bad-table, bad-line, bad-sheet, bad-budget, accepted, fits, short}
 use Rattle.readings.proofs.Numbers.{stop-numbers}
 
@@ -111,10 +111,6 @@ module _ (s : Scene) (d b : ℕ) where
   reading-back (reading {r} {k} i j w) = let (a, v, e) = from-back w in (node r k a, reading i j v, ap (node r k) e)
 
 -- ---- calls
-
-trees-moved : (d : ℕ) (ms : List Match) → map tree (map (movedMatch d) ms) ≡ map (moved d) (map tree ms)
-trees-moved d [] = refl
-trees-moved d (m ∷ ms) = ap (λ (l : List Tree). moved d (m .0) ∷ l) (trees-moved d ms)
 
 shifted-as : {d : ℕ} {b : List ℕ} {r r′ u u′ : Told} → r ≡ r′ → u ≡ u′ → Shifted d b r′ u′ → Shifted d b r u
 shifted-as {d} {b} {r} {r′} {u} {u′} p q x = subst (λ (k : Told). Shifted d b k u) (sym p) (subst (Shifted d b r′) (sym q) x)
