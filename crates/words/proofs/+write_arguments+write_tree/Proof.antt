@@ -202,6 +202,6 @@ pub +write-arguments+write-tree-spec : {M : Type 1} → statement M
 +write-arguments+write-tree-spec =
     close μ-a μ-m
     (λ t. A.spec (a-calls t) (a-at t) a-reads.Post
-        (a-last-argument-requires t) (a-enum-told t) (a-enum-known-last t) (a-write-arguments-requires t) (a-add-start t) (a-add-end t) (a-enum-told-2 t) (a-write-words-requires t) (a-enum-known-kind t) (a-write-words-requires-2 t) (a-write-tree-requires t) (a-returns t) (a-same-length t) (a-returns-2 t) (a-same-length-2 t) (a-returns-3 t))
+    (a-last-argument-requires t) (a-enum-told t) (a-enum-known-last t) (a-write-arguments-requires t) (a-add-start t) (a-add-end t) (a-enum-told-2 t) (a-write-words-requires t) (a-enum-known-kind t) (a-write-words-requires-2 t) (a-write-tree-requires t) (a-returns t) (a-same-length t) (a-returns-2 t) (a-same-length-2 t) (a-returns-3 t))
     (λ t. M.spec (m-calls t) (m-at t) m-reads.Post
-        (m-match-at-requires t) (m-count-arguments-requires t) (m-write-words-requires t) (m-write-arguments-requires t) (m-same-length t) (m-returns t))
+    (m-match-at-requires t) (m-count-arguments-requires t) (m-write-words-requires t) (m-write-arguments-requires t) (m-same-length t) (m-returns t))
