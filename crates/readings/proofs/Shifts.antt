@@ -214,3 +214,30 @@ module _ (t line sheet : List ℕ) (budget d base : ℕ) (b : List ℕ) (high : 
   pub lookup-moved : Shifted d b (lookupCall t line sheet budget base b) (lookupCall t line sheet budget (d + base) b)
   unfolding topPairs based
   lookup-moved = call-moved (λ s. foundPairs s (linePrefix (s .line))) t line sheet budget d base b refl low high
+
+-- so number, visits and words needed are the same under any two bases that are not refused
+module _ (call : ℕ → Told) (b : List ℕ) (moves : (d base : ℕ) → baseFits (d + base) ≡ true → Shifted d b (call base) (call (d + base))) where
+  free-above : (base base′ : ℕ) → base ≤ base′ → baseFits base′ ≡ true → (call base′ .number ≡ call base .number) × (call base′ .visits ≡ call base .visits) × (call base′ .words ≡ call base .words)
+  free-above base base′ h fits =
+      let sum : base′ - base + base ≡ base′ = omega arith in
+      let m = subst (λ (n : ℕ). Shifted (base′ - base) b (call base) (call n)) sum (moves (base′ - base) base (ap baseFits sum ∙ fits)) in
+      (m .number, m .visits, m .words)
+
+  pub base-free : (base base′ : ℕ) → baseFits base ≡ true → baseFits base′ ≡ true
+      → (call base .number ≡ call base′ .number) × (call base .visits ≡ call base′ .visits) × (call base .words ≡ call base′ .words)
+  base-free base base′ f g = by (decLe base base′)
+    where
+      by : Dec (base ≤ base′) → (call base .number ≡ call base′ .number) × (call base .visits ≡ call base′ .visits) × (call base .words ≡ call base′ .words)
+      by (yes h) = let (n, v, w) = free-above base base′ h g in (sym n, sym v, sym w)
+      by (no h) = free-above base′ base (omega (arith, h)) f
+
+module _ (t line sheet : List ℕ) (budget : ℕ) (b : List ℕ) (base base′ : ℕ) (f : baseFits base ≡ true) (g : baseFits base′ ≡ true) where
+  pub scan-base-free : (scanCall t line sheet budget base b .number ≡ scanCall t line sheet budget base′ b .number)
+      × (scanCall t line sheet budget base b .visits ≡ scanCall t line sheet budget base′ b .visits)
+      × (scanCall t line sheet budget base b .words ≡ scanCall t line sheet budget base′ b .words)
+  scan-base-free = base-free (λ n. scanCall t line sheet budget n b) b (λ d n fits. scan-moved t line sheet budget d n b fits) base base′ f g
+
+  pub lookup-base-free : (lookupCall t line sheet budget base b .number ≡ lookupCall t line sheet budget base′ b .number)
+      × (lookupCall t line sheet budget base b .visits ≡ lookupCall t line sheet budget base′ b .visits)
+      × (lookupCall t line sheet budget base b .words ≡ lookupCall t line sheet budget base′ b .words)
+  lookup-base-free = base-free (λ n. lookupCall t line sheet budget n b) b (λ d n fits. lookup-moved t line sheet budget d n b fits) base base′ f g
