@@ -1,6 +1,7 @@
 // The lines of standard input, of which there may be any number, each of any length: they are read in chunks, and of a line
 // only its first bytes are held. A line is what stands before a newline, and after the last one if that is something.
-// Whitespace at its end is taken off, so a file whose lines end in 13 and 10 is read like any other.
+// Whitespace at its end is taken off, so a file whose lines end in 13 and 10 is read like any other. What is taken off or not
+// held is counted all the same, and so are the newlines: where a line begins is its place in the file.
 use crate::matching::Verdict;
 use crate::matching::show_line;
 use crate::show::part;
@@ -13,6 +14,9 @@ const CHUNK: usize = 4_096;
 // How many of a line's bytes are held: one more than a line may have, so that a longer one is refused for its length.
 const HELD: usize = 121;
 
+// What is lent as the base of a line that begins past what 32 bits hold: matching refuses it, with number 19.
+const TOO_FAR: u32 = 4_294_967_295;
+
 // A proved loop has to end, and nothing says that the input does. So the loop over it counts its turns down, from a number
 // that no run uses up.
 const TURNS: u64 = u64::MAX;
@@ -24,10 +28,12 @@ enum Chunk {
     Failed,
 }
 
-// Where the program is in its input. Of the line so far: how many bytes are held; one more than the place of the last that
-// is no whitespace; and whether such a one came after those held. Of the lines before: how many were read, and how many of
-// them stop the build.
+// Where the program is in its input: how many bytes are behind it, and how many of them stand before the line. Of the line so
+// far: how many bytes are held; one more than the place of the last that is no whitespace; and whether such a one came after
+// those held. Of the lines before: how many were read, and how many of them stop the build.
 struct Progress {
+    bytes: usize,
+    begin: usize,
     held: usize,
     solid: usize,
     longer: bool,
@@ -40,9 +46,20 @@ fn more(count: usize) -> usize {
     if count < usize::MAX { count + 1 } else { count }
 }
 
+// The base of a line that has so many bytes before it.
+fn base_of(begin: usize) -> u32 {
+    if begin < TOO_FAR as usize {
+        begin as u32
+    } else {
+        TOO_FAR
+    }
+}
+
 impl Progress {
     fn new() -> Self {
         Progress {
+            bytes: 0,
+            begin: 0,
             held: 0,
             solid: 0,
             longer: false,
@@ -69,8 +86,16 @@ impl Progress {
 
     // The line is at its end. What is read in it is written and counted, and the next line begins.
     fn ended(self, table: &[u16], encoded: bool, line: &[u8; HELD]) -> Self {
-        let verdict = show_line(table, encoded, part(line, 0, self.solid), self.longer);
+        let verdict = show_line(
+            table,
+            encoded,
+            part(line, 0, self.solid),
+            self.longer,
+            base_of(self.begin),
+        );
         let mut next = Progress::new();
+        next.bytes = self.bytes;
+        next.begin = self.bytes;
         next.lines = self.lines;
         next.stops = self.stops;
         match verdict {
@@ -88,7 +113,8 @@ impl Progress {
         self
     }
 
-    fn next(self, table: &[u16], encoded: bool, line: &mut [u8; HELD], byte: u8) -> Self {
+    fn next(mut self, table: &[u16], encoded: bool, line: &mut [u8; HELD], byte: u8) -> Self {
+        self.bytes = more(self.bytes);
         if byte == b'\n' {
             self.ended(table, encoded, line)
         } else {

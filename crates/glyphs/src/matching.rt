@@ -26,8 +26,9 @@ pub enum Verdict {
     Stops,
 }
 
-// Writes a line, and under it what is read in it. Of a longer line its first bytes are lent.
-pub fn show_line(table: &[u16], encoded: bool, line: &[u8], longer: bool) -> Verdict {
+// Writes a line, and under it what is read in it. Of a longer line its first bytes are lent. Here and below, the base is where
+// the line begins in the file, so that an argument's place is one in the file too.
+pub fn show_line(table: &[u16], encoded: bool, line: &[u8], longer: bool, base: u32) -> Verdict {
     say(line);
     if longer {
         say(b"...");
@@ -38,7 +39,7 @@ pub fn show_line(table: &[u16], encoded: bool, line: &[u8], longer: bool) -> Ver
     }
     let mut sheet = [0u8; MOST_SHEET];
     let size = lines::sheet_size(line.len());
-    if read(table, encoded, line, &mut sheet[0..size]) {
+    if read(table, encoded, line, base, &mut sheet[0..size]) {
         Verdict::Read
     } else {
         Verdict::Stops
@@ -53,10 +54,10 @@ fn is_passed_over(line: &[u8]) -> bool {
 }
 
 // Fills the line's sheet, and reads the line. Here and below, the answer is whether the build goes on.
-fn read(table: &[u16], encoded: bool, line: &[u8], sheet: &mut [u8]) -> bool {
+fn read(table: &[u16], encoded: bool, line: &[u8], base: u32, sheet: &mut [u8]) -> bool {
     let filling = fill_sheet(line, sheet);
     match filling {
-        Filling::Filled { words: _ } => match_line(table, encoded, line, sheet),
+        Filling::Filled { words: _ } => match_line(table, encoded, line, base, sheet),
         Filling::BadLine { place } => {
             put_bad_line(line, place as usize);
             false
@@ -69,16 +70,16 @@ fn read(table: &[u16], encoded: bool, line: &[u8], sheet: &mut [u8]) -> bool {
 }
 
 // Calls both entry points.
-fn match_line(table: &[u16], encoded: bool, line: &[u8], sheet: &[u8]) -> bool {
-    let mut found = [0u16; ROOM];
-    let scan = matcher::match_instr(table, line, sheet, BUDGET, &mut found);
-    let mut again = [0u16; ROOM];
-    matcher::match_with_ruledef_map(table, line, sheet, BUDGET, &mut again);
+fn match_line(table: &[u16], encoded: bool, line: &[u8], base: u32, sheet: &[u8]) -> bool {
+    let mut found = [0u32; ROOM];
+    let scan = matcher::match_instr(table, line, sheet, BUDGET, base, &mut found);
+    let mut again = [0u32; ROOM];
+    matcher::match_with_ruledef_map(table, line, sheet, BUDGET, base, &mut again);
     match scan {
         Answer::Matched {
             visits: _,
             words: _,
-        } => put_readings(encoded, line, &found, &again),
+        } => put_readings(encoded, line, base, &found, &again),
         _ => {
             put_refusal(scan, line);
             false
@@ -87,10 +88,16 @@ fn match_line(table: &[u16], encoded: bool, line: &[u8], sheet: &[u8]) -> bool {
 }
 
 // Writes the readings, how many lookup found, and what is chosen among them where their encodings are known.
-fn put_readings(encoded: bool, line: &[u8], found: &[u16; ROOM], again: &[u16; ROOM]) -> bool {
+fn put_readings(
+    encoded: bool,
+    line: &[u8],
+    base: u32,
+    found: &[u32; ROOM],
+    again: &[u32; ROOM],
+) -> bool {
     let count = word(found, 0, 0);
-    let first = Reading::show(found, line, FIRST);
-    let latest = show_others(found, line, first, count);
+    let first = Reading::show(found, line, base, FIRST);
+    let latest = show_others(found, line, base, first, count);
     tell(
         b"    readings: % by scan, % by lookup; exact parts: %\n",
         count,
@@ -104,11 +111,17 @@ fn put_readings(encoded: bool, line: &[u8], found: &[u16; ROOM], again: &[u16; R
 }
 
 // Writes the readings after the first, and returns the last one of all.
-fn show_others(found: &[u16; ROOM], line: &[u8], first: Reading, count: usize) -> Reading {
+fn show_others(
+    found: &[u32; ROOM],
+    line: &[u8],
+    base: u32,
+    first: Reading,
+    count: usize,
+) -> Reading {
     let mut latest = first;
     let mut shown: usize = 1;
     while shown < count {
-        latest = Reading::show(found, line, latest.at);
+        latest = Reading::show(found, line, base, latest.at);
         shown += 1;
     }
     latest

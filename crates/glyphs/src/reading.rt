@@ -22,8 +22,10 @@ const RULE: usize = 3;
 
 const COUNT: usize = 2;
 
-// How many words an argument has, kind, start and end; and where in them the last stands.
+// How many words an argument has, kind, start and end; and where in them the last two stand.
 const ARGUMENT: usize = 3;
+
+const START: usize = 1;
 
 const END: usize = 2;
 
@@ -47,7 +49,7 @@ pub struct Reading {
 }
 
 // The word that stands so far after a place, or 0 past the end.
-pub fn word(words: &[u16; ROOM], at: usize, after: usize) -> usize {
+pub fn word(words: &[u32; ROOM], at: usize, after: usize) -> usize {
     if at < ROOM {
         if after < ROOM - at {
             return wide(words[at + after]);
@@ -78,20 +80,30 @@ fn take_one(to_come: &mut [usize; DEPTHS], depth: usize) -> bool {
     false
 }
 
-// An argument's text.
-fn text_of<'a>(words: &[u16; ROOM], line: &'a [u8], at: usize) -> &'a [u8] {
-    part(line, word(words, at, 1), word(words, at, END))
+// An argument's text. Its place counts in the file, and the line begins there at the base: so it is cut out of the line by its
+// place less the base, or nothing is if that is no part of the line.
+fn text_of<'a>(words: &[u32; ROOM], line: &'a [u8], base: u32, at: usize) -> &'a [u8] {
+    let from = wide(base);
+    let start = word(words, at, START);
+    let end = word(words, at, END);
+    if from <= start {
+        if start <= end {
+            return part(line, start - from, end - from);
+        }
+    }
+    &line[0..0]
 }
 
-// Writes it.
-fn put_text(words: &[u16; ROOM], line: &[u8], at: usize) {
+// Writes it, and its place in the file: its start, and the end that is no part of it.
+fn put_text(words: &[u32; ROOM], line: &[u8], base: u32, at: usize) {
     say(b" {");
-    say(text_of(words, line, at));
+    say(text_of(words, line, base, at));
+    tell(b" at %..%", word(words, at, START), word(words, at, END), 0);
 }
 
 impl Reading {
     // The reading that begins at a place, before its first argument.
-    fn new(words: &[u16; ROOM], at: usize) -> Self {
+    fn new(words: &[u32; ROOM], at: usize) -> Self {
         let rule = word(words, at, 1);
         tell(b"    %.%", word(words, at, 0), rule, 0);
         let sized = SIZED + SIZE_UNIT * bits_of(rule) as u32;
@@ -106,27 +118,28 @@ impl Reading {
     }
 
     // Past an expression, whose value counts. (The example's nested rules have no parameters.)
-    fn over_expression(mut self, words: &[u16; ROOM], line: &[u8]) -> Self {
+    fn over_expression(mut self, words: &[u32; ROOM], line: &[u8], base: u32) -> Self {
         let at = self.at;
-        put_text(words, line, at);
+        put_text(words, line, base, at);
         say(b"}");
-        let v = value_of(text_of(words, line, at));
+        let v = value_of(text_of(words, line, base, at));
         self.guessing = with_value(v, self.rule, false, self.guessing);
         self.last = with_value(v, self.rule, true, self.last);
         self.at = past(at, ARGUMENT);
         self
     }
 
-    // Into a nested argument's match: its text, its rule, and its own arguments to come.
+    // Into a nested argument's match: its text and place, its rule, and its own arguments to come.
     fn into_match(
         mut self,
-        words: &[u16; ROOM],
+        words: &[u32; ROOM],
         line: &[u8],
+        base: u32,
         to_come: &mut [usize; DEPTHS],
     ) -> Self {
         let at = self.at;
         let depth = self.depth;
-        put_text(words, line, at);
+        put_text(words, line, base, at);
         tell(
             b": %.%",
             word(words, at, ARGUMENT),
@@ -153,26 +166,32 @@ impl Reading {
         self
     }
 
-    fn next(self, words: &[u16; ROOM], line: &[u8], to_come: &mut [usize; DEPTHS]) -> Self {
+    fn next(
+        self,
+        words: &[u32; ROOM],
+        line: &[u8],
+        base: u32,
+        to_come: &mut [usize; DEPTHS],
+    ) -> Self {
         if !take_one(to_come, self.depth) {
             return self.out_of_match();
         }
         if word(words, self.at, 0) == NESTED {
-            return self.into_match(words, line, to_come);
+            return self.into_match(words, line, base, to_come);
         }
-        self.over_expression(words, line)
+        self.over_expression(words, line, base)
     }
 
     // Writes the reading that begins at a place, and returns it. An argument has three words and takes at most two turns,
     // into it and out of it, so as many turns as words are enough.
-    pub fn show(words: &[u16; ROOM], line: &[u8], at: usize) -> Self {
+    pub fn show(words: &[u32; ROOM], line: &[u8], base: u32, at: usize) -> Self {
         let mut to_come = [0usize; DEPTHS];
         to_come[0] = word(words, at, COUNT);
         let mut r = Reading::new(words, at);
         let mut turns = ROOM;
         while turns > 0 {
             turns -= 1;
-            r = r.next(words, line, &mut to_come);
+            r = r.next(words, line, base, &mut to_come);
             if r.whole {
                 return r;
             }

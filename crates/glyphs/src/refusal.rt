@@ -21,6 +21,7 @@ pub fn put_refusal(answer: Answer, line: &[u8]) {
         Answer::BadLine { place } => put_place(line, place as usize),
         Answer::BadSheet => say(b"number 4: bad sheet\n"),
         Answer::BadBudget => say(b"number 5: bad budget\n"),
+        Answer::BadBase => say(b"number 19: the line begins too far on in the file\n"),
         Answer::Spent { visits } => tell(
             b"number 6: % visits are spent, and there is more to try\n",
             visits as usize,
@@ -49,7 +50,7 @@ pub fn put_bad_line(line: &[u8], place: usize) {
     put_place(line, place);
 }
 
-// The place counts from 0.
+// The place counts from 0 in the line, and not in the file as an argument's does.
 fn put_place(line: &[u8], place: usize) {
     if LONGEST < line.len() {
         tell(

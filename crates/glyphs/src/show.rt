@@ -1,7 +1,6 @@
 // Parts of a text, and what is written: to standard output, or to standard error what refuses the whole run.
 use libc::STDERR_FILENO;
 use libc::STDOUT_FILENO;
-ghost use Prim.Native.Nat.{_≤_};
 
 pub fn say(text: &[u8]) {
     io::write_all(STDOUT_FILENO, text);
@@ -45,8 +44,6 @@ pub fn part(text: &[u8], start: usize, end: usize) -> &[u8] {
     &text[0..0]
 }
 
-pub fn wide(word: u16) -> usize
-    ensures small { λ r. ⌜ r ≤ 65535 ⌝ }
-{
+pub fn wide(word: u32) -> usize {
     word as usize
 }

@@ -5,10 +5,10 @@ use Rattle.glyphs.proofs.matching.show_others.Statement.{statement}
 use Rattle.glyphs.proofs.matching.show_others.Tie as tie
 
 abbrev Inv-loop : tie.InvT-loop
-Inv-loop found line count latest₀ shown₀ latest shown = 0 ≤ shown
+Inv-loop found line base count latest₀ shown₀ latest shown = 0 ≤ shown
 
 abbrev μ-loop : tie.MeasureT-loop
-μ-loop found line count latest₀ shown₀ latest shown = count - shown
+μ-loop found line base count latest₀ shown₀ latest shown = count - shown
 
 loop-holds : tie.Need-loop-holds Inv-loop μ-loop
 loop-holds c = search needs

@@ -5,10 +5,10 @@ use Rattle.glyphs.proofs.reading.Reading.show.Statement.{statement}
 use Rattle.glyphs.proofs.reading.Reading.show.Tie as tie
 
 abbrev Inv-loop : tie.InvT-loop
-Inv-loop words line at to-come₀ r₀ turns₀ to-come r turns = 0 ≤ turns
+Inv-loop words line base at to-come₀ r₀ turns₀ to-come r turns = 0 ≤ turns
 
 abbrev μ-loop : tie.MeasureT-loop
-μ-loop words line at to-come₀ r₀ turns₀ to-come r turns = turns
+μ-loop words line base at to-come₀ r₀ turns₀ to-come r turns = turns
 
 word-requires : tie.Need-word-requires Inv-loop μ-loop
 word-requires c κs = search needs
