@@ -3,3 +3,4 @@ pub mod Shapes
 pub mod Joined
 pub mod Agreed
 pub mod Programs
+pub mod Rebased

@@ -1,3 +1,4 @@
 pub mod Program
 pub mod Demand
 pub mod Joined
+pub mod Based
