@@ -15,35 +15,37 @@
 #include <stdint.h>
 
 /* The version of this interface, and of the crate in rust/. */
-#define THOLDRIMASH_VERSION "0.5.0"
+#define THOLDRIMASH_VERSION "0.6.0"
 #define THOLDRIMASH_VERSION_MAJOR 0
-#define THOLDRIMASH_VERSION_MINOR 5
+#define THOLDRIMASH_VERSION_MINOR 6
 #define THOLDRIMASH_VERSION_PATCH 0
 
 #ifdef __cplusplus
 extern "C" {
 #endif
 
-/* The numbers that the field `number` holds: of matching 0 to 9, of selection 0 and 10 to 14, of reading a table's text 0,
- * 15 and 16, of writing it 0, 2 and 16, of a program 0, 2 and 17, of filling a sheet 0, 3 and 18. Beside each stand the
- * fields that it returns. A program's lines have numbers too, those of matching but for 2; they stand in its rows.
+/* The numbers that the field `number` holds: of matching 0 to 9 and 19, of selection 0 and 10 to 14, of reading a table's
+ * text 0, 15 and 16, of writing it 0, 2 and 16, of a program 0, 2 and 17, of filling a sheet 0, 3 and 18. Beside each stand
+ * the fields that it returns. A program's lines have numbers too, those of matching but for 2; they stand in its rows.
  *
- * Matching judges table, line, sheet and budget in that order (2, 3, 4, 5); then comes whichever of 6, 7 and 8 the walk
- * meets first; then 1; then 9. Selection judges 10, 11, 12, 13, 14 in that order. Reading judges the text (15), writing the
- * table (2), and then either the room for its result (16). A program call judges the table (2), then the shape of what it is
- * lent (17), and then each line as matching does. Filling judges the line (3), then the sheet's length (18).
+ * Matching judges table, line, sheet, budget and base in that order (2, 3, 4, 5, 19); then comes whichever of 6, 7 and 8 the
+ * walk meets first; then 1; then 9. Selection judges 10, 11, 12, 13, 14 in that order. Reading judges the text (15), writing
+ * the table (2), and then either the room for its result (16). A program call judges the table (2), then the shape of what
+ * it is lent (17), and then each line as matching does. Filling judges the line (3), then the sheet's length (18).
  */
 enum {
     THOLDRIMASH_MATCHED = 0,        /* visits; words: how many were written at the answer's start, the rest is unchanged */
     THOLDRIMASH_NO_MATCH = 1,       /* visits */
     THOLDRIMASH_BAD_TABLE = 2,
-    THOLDRIMASH_BAD_LINE = 3,       /* place: 120 if too long, else the first bad byte, else the last byte (whitespace) */
+    THOLDRIMASH_BAD_LINE = 3,       /* place in the line, without the base: 120 if too long, else its first bad byte, else its
+                                     * last byte (whitespace) */
     THOLDRIMASH_BAD_SHEET = 4,
     THOLDRIMASH_BAD_BUDGET = 5,
     THOLDRIMASH_SPENT = 6,          /* the next visit would exceed the budget; visits: the budget */
     THOLDRIMASH_TOO_DEEP = 7,       /* a nested step would enter depth 17, mostly by left recursion; visits so far */
     THOLDRIMASH_POOL_FULL = 8,      /* a 4,097th record is due; visits so far */
     THOLDRIMASH_TOO_LONG = 9,       /* the answer is longer than the buffer; visits; words: how many it needs */
+    THOLDRIMASH_BAD_BASE = 19,      /* the base is above 4,294,967,175 */
 
     THOLDRIMASH_CHOSEN = 0,         /* count: how many indices were written at the start of `chosen`, the rest is unchanged */
     THOLDRIMASH_BAD_LIST = 10,
@@ -58,7 +60,7 @@ enum {
     THOLDRIMASH_RESULT_TOO_LONG = 16, /* the table's words, or the text's bytes, are more than the room lent for them */
 
     THOLDRIMASH_PROGRAM_READ = 0, /* every line has its row; words: how many were written at the start of `answers` in all */
-    THOLDRIMASH_BAD_PROGRAM = 17, /* more than 256 lines, bad ends, or sheets, budgets or rows of the wrong length */
+    THOLDRIMASH_BAD_PROGRAM = 17, /* more than 256 lines, bad ends, or sheets, budgets, bases or rows of the wrong length */
 
     THOLDRIMASH_FILLED = 0,         /* words: how many bytes the sheet has, each of which was written */
     THOLDRIMASH_BAD_SHEET_ROOM = 18 /* the sheet's length is not that of the line's sheet */
@@ -102,19 +104,23 @@ typedef struct {
  *         asked for free(3, 5), not free(4, 5). Parse from every c, over leading whitespace; a sheet that knows only the
  *         first bytes of expressions passes every check and gives 1 for good lines.
  * budget  1 to 1,000,000 visits. It bounds the time of a call, and changes no answer but to 6: take 1,000,000 if unsure.
- * answer  number of matches, greatest exact count, then each tree: ruleset, rule, argument count; per argument 0
- *         (expression) or 1 (nested), start, end, and the inner tree if nested.
+ * base    where the line begins in its file, or in whatever the caller counts places by: 0 to 4,294,967,175, so that the
+ *         end of a line of 120 bytes is still a 32-bit number. 0 gives offsets within the line. A base moves every start and
+ *         end in the answer; visits, words and all numbers but 19 are the same at each.
+ * answer  32-bit words: number of matches, greatest exact count, then each tree: ruleset, rule, argument count; per argument
+ *         0 (expression) or 1 (nested), start, end, and the inner tree if nested. Start and end are the base plus the offset
+ *         within the line.
  */
 tholdrimash_answer tholdrimash_match(const uint16_t *table, size_t table_len, const uint8_t *line, size_t line_len,
-                                     const uint8_t *sheet, size_t sheet_len, uint32_t budget, uint16_t *answer,
-                                     size_t answer_len);
+                                     const uint8_t *sheet, size_t sheet_len, uint32_t budget, uint32_t base,
+                                     uint32_t *answer, size_t answer_len);
 
 /* The same by prefix lookup: whenever the scan is not refused by 6, 7 or 8, the same number, readings and words with no more
  * visits. The readings' order may differ: by the length of the rule's prefix, then the table's order.
  */
 tholdrimash_answer tholdrimash_lookup(const uint16_t *table, size_t table_len, const uint8_t *line, size_t line_len,
-                                      const uint8_t *sheet, size_t sheet_len, uint32_t budget, uint16_t *answer,
-                                      size_t answer_len);
+                                      const uint8_t *sheet, size_t sheet_len, uint32_t budget, uint32_t base,
+                                      uint32_t *answer, size_t answer_len);
 
 /* Fills a line's sheet from the line itself: where its expressions end, by the grammar of delta expressions.
  *
@@ -145,29 +151,33 @@ tholdrimash_answer tholdrimash_fill_sheet(const uint8_t *line, size_t line_len, 
  * sheets   each line's sheet, one after another: 2(n+1)^2 bytes for a line of n up to 120, and none for a longer one.
  *          tholdrimash_fill_sheet fills each where it stands; a bad line's may hold anything.
  * budgets  a budget for each line.
+ * bases    a base for each line: where it begins in its file, which mostly is another place than in `text`, since nothing
+ *          stands between the lines there.
  * rows     two words for each line: its number, and how many answer words the lines before it have used.
  * answers  the words of the lines that matched, one line's after another's.
  *
  * The number is 2 for a bad table; then 17 for more than 256 lines, an end below the one before it or past the text, or
- * sheets, budgets or rows of any other length than that. Both come before any line, and nothing is written. Otherwise it is
- * 0, whatever the lines' numbers are: every row is written, and `words` is how many answer words were used.
+ * sheets, budgets, bases or rows of any other length than that. Both come before any line, and nothing is written. Otherwise
+ * it is 0, whatever the lines' numbers are: every row is written, and `words` is how many answer words were used.
  *
  * Line i's number is rows[2i], and its words, if that is 0, begin at answers[rows[2i+1]] and end where the next line's
  * begin, the last one's at `words`; the rest of `answers` is unchanged. Number and words are what matching gives for the
- * line, its sheet and its budget, with the room left in `answers` as its buffer: 0, 1 or 3 to 9. A refused line takes no
- * words and stops nothing, so that after a 9 a later, shorter answer may still fit. Visits, the words that a 9 needs and
- * the place of a 3 are not told: match that line alone to have them.
+ * line, its sheet, its budget and its base, with the room left in `answers` as its buffer: 0, 1, 3 to 9 or 19. A refused
+ * line takes no words and stops nothing, so that after a 9 a later, shorter answer may still fit. Visits, the words that a 9
+ * needs and the place of a 3 are not told: match that line alone to have them.
  */
 tholdrimash_answer tholdrimash_match_program(const uint16_t *table, size_t table_len, const uint8_t *text, size_t text_len,
                                              const uint32_t *ends, size_t ends_len, const uint8_t *sheets,
                                              size_t sheets_len, const uint32_t *budgets, size_t budgets_len,
-                                             uint32_t *rows, size_t rows_len, uint16_t *answers, size_t answers_len);
+                                             const uint32_t *bases, size_t bases_len, uint32_t *rows, size_t rows_len,
+                                             uint32_t *answers, size_t answers_len);
 
 /* The same by prefix lookup: each line's number and words are what tholdrimash_lookup gives for it. */
 tholdrimash_answer tholdrimash_lookup_program(const uint16_t *table, size_t table_len, const uint8_t *text, size_t text_len,
                                               const uint32_t *ends, size_t ends_len, const uint8_t *sheets,
                                               size_t sheets_len, const uint32_t *budgets, size_t budgets_len,
-                                              uint32_t *rows, size_t rows_len, uint16_t *answers, size_t answers_len);
+                                              const uint32_t *bases, size_t bases_len, uint32_t *rows, size_t rows_len,
+                                              uint32_t *answers, size_t answers_len);
 
 /* The outcomes of least known size, by index, ascending.
  *

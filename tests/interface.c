@@ -1,7 +1,7 @@
 /* Calls every function that include/tholdrimash.h declares: bench cases 1, 2, 10, 11 and 12 of document 01, each number
- * from 0 to 18 by its name, the examples of docs/MANUAL.md in its order and notation, and filled sheets beside a search
- * for each span. After a call it looks at all that was lent and at what stands around it. It writes one line, and ends
- * with 1 if a check failed.
+ * from 0 to 19 by its name, the examples of docs/MANUAL.md in its order and notation, each at several bases, and filled
+ * sheets beside a search for each span. After a call it looks at all that was lent and at what stands around it. It
+ * writes one line, and ends with 1 if a check failed.
  */
 #include "tholdrimash.h"
 
@@ -58,8 +58,8 @@ static void give_back(lent l) {
 }
 
 typedef tholdrimash_answer matching(const uint16_t *table, size_t table_len, const uint8_t *line, size_t line_len,
-                                    const uint8_t *sheet, size_t sheet_len, uint32_t budget, uint16_t *answer,
-                                    size_t answer_len);
+                                    const uint8_t *sheet, size_t sheet_len, uint32_t budget, uint32_t base,
+                                    uint32_t *answer, size_t answer_len);
 
 typedef struct {
     const uint16_t *table;
@@ -67,18 +67,18 @@ typedef struct {
     const char *line;
     const uint8_t *sheet;
     size_t sheet_len;
-    uint32_t budget;
+    uint32_t budget, base;
     size_t room;
 } call;
 
 /* One call gives these fields, and on number 0 these words. */
-static void gives(const char *name, matching *run, call c, tholdrimash_answer expected, const uint16_t *words) {
+static void gives(const char *name, matching *run, call c, tholdrimash_answer expected, const uint32_t *words) {
     size_t line_len = strlen(c.line), written = expected.number == THOLDRIMASH_MATCHED ? expected.words : 0;
     lent table = lend(c.table, c.table_len * sizeof *c.table), line = lend(c.line, line_len),
          sheet = lend(c.sheet, c.sheet_len), answer = lend(NULL, c.room * sizeof *words);
 
     tholdrimash_answer told =
-        run(at(table), c.table_len, at(line), line_len, at(sheet), c.sheet_len, c.budget, at(answer), c.room);
+        run(at(table), c.table_len, at(line), line_len, at(sheet), c.sheet_len, c.budget, c.base, at(answer), c.room);
     check(name, "number", told.number == expected.number);
     check(name, "visits", told.visits == expected.visits);
     check(name, "words", told.words == expected.words);
@@ -92,13 +92,63 @@ static void gives(const char *name, matching *run, call c, tholdrimash_answer ex
     give_back(answer);
 }
 
+/* The greatest base, bases from both sides of where 16 bits, a sign and 32 bits end, and two that are too great. */
+#define GREATEST 4294967175U
+
+static const uint32_t some_bases[] = {0, 1, 7, 65535, 65536, INT32_MAX, 1U << 31, GREATEST};
+static const uint32_t too_great[] = {GREATEST + 1, UINT32_MAX};
+
+/* Moves every start and end of the tree that begins here by the base, and says where the tree ends. */
+static size_t move_tree(uint32_t *words, size_t at, uint32_t base) {
+    uint32_t arguments = words[at + 2];
+    at += 3;
+    for (uint32_t i = 0; i < arguments; i++) {
+        int nested = words[at] == 1;
+        words[at + 1] += base;
+        words[at + 2] += base;
+        at += 3;
+        if (nested) at = move_tree(words, at, base);
+    }
+    return at;
+}
+
+/* The words of an answer at base 0, if there are any, as they are at another base. */
+static void move(uint32_t *moved, const uint32_t *words, size_t len, uint32_t base) {
+    if (len == 0) return;
+    memcpy(moved, words, len * sizeof *words);
+    size_t at = 2;
+    for (uint32_t i = 0; i < words[0]; i++) at = move_tree(moved, at, base);
+    check("moved words", "one whole answer", at == len);
+}
+
+/* At every base one call gives these fields, and on number 0 these words, with starts and ends moved. */
+static void moves(const char *name, matching *run, call c, tholdrimash_answer expected, const uint32_t *words) {
+    static uint32_t moved[1024];
+    size_t written = expected.number == THOLDRIMASH_MATCHED ? expected.words : 0;
+    for (size_t i = 0; i < LEN(some_bases); i++) {
+        c.base = some_bases[i];
+        move(moved, words, written, c.base);
+        gives(name, run, c, expected, moved);
+    }
+}
+
 /* So do scan and lookup both. */
-static void both(const char *name, call c, tholdrimash_answer expected, const uint16_t *words) {
-    gives(name, tholdrimash_match, c, expected, words);
-    gives(name, tholdrimash_lookup, c, expected, words);
+static void both(const char *name, call c, tholdrimash_answer expected, const uint32_t *words) {
+    moves(name, tholdrimash_match, c, expected, words);
+    moves(name, tholdrimash_lookup, c, expected, words);
 }
 
 static void refused(const char *name, call c, tholdrimash_answer expected) { both(name, c, expected, NULL); }
+
+/* With too great a base, scan and lookup are both refused by this number and place. */
+static void refused_at_bad_bases(const char *name, call c, uint32_t number, uint32_t place) {
+    const tholdrimash_answer expected = {.number = number, .place = place};
+    for (size_t i = 0; i < LEN(too_great); i++) {
+        c.base = too_great[i];
+        gives(name, tholdrimash_match, c, expected, NULL);
+        gives(name, tholdrimash_lookup, c, expected, NULL);
+    }
+}
 
 /* A selection gives these fields, on number 0 these indices, and leaves these outcomes. */
 static void selects(const char *name, const uint32_t *outcomes, size_t len, uint32_t last_pass, size_t room,
@@ -158,11 +208,11 @@ static const uint16_t t[] = {2,  4, 12,  0,   1,   0,   0,   5,   0,   5,   5,  
 
 /* T on `mov p`, free(3,5)=5, all else 255: each check of the call, and each limit, from there. */
 static void on_t(void) {
-    static const uint16_t whole[] = {1, 4, 0, 1, 1, 1, 4, 5, 1, 0, 0};
+    static const uint32_t whole[] = {1, 4, 0, 1, 1, 1, 4, 5, 1, 0, 0};
     uint8_t sheet[72];
     memset(sheet, 255, sizeof sheet);
     sheet[3 * 6 + 5] = 5;
-    const call good = {t, LEN(t), "mov p", sheet, sizeof sheet, ALL, LEN(whole) + 1};
+    const call good = {t, LEN(t), "mov p", sheet, sizeof sheet, ALL, 0, LEN(whole) + 1};
     const tholdrimash_answer matched = {.number = THOLDRIMASH_MATCHED, .visits = 15, .words = LEN(whole)};
 
     call c = good;
@@ -184,7 +234,8 @@ static void on_t(void) {
     c.line = "mov ";
     refused("a line that ends in a space", c, (tholdrimash_answer){.number = THOLDRIMASH_BAD_LINE, .place = 3});
     c.line = "a\r";
-    refused("a line that ends in a carriage return", c, (tholdrimash_answer){.number = THOLDRIMASH_BAD_LINE, .place = 1});
+    refused("a line that ends in a carriage return", c,
+            (tholdrimash_answer){.number = THOLDRIMASH_BAD_LINE, .place = 1});
     c.line = "\r";
     refused("a carriage return alone", c, (tholdrimash_answer){.number = THOLDRIMASH_BAD_LINE});
     c.line = "mov\np";
@@ -210,9 +261,9 @@ static void on_t(void) {
     /* Lookup tries no rule. */
     c = good;
     c.line = "nop p";
-    gives("no match, scan", tholdrimash_match, c, (tholdrimash_answer){.number = THOLDRIMASH_NO_MATCH, .visits = 2},
+    moves("no match, scan", tholdrimash_match, c, (tholdrimash_answer){.number = THOLDRIMASH_NO_MATCH, .visits = 2},
           NULL);
-    gives("no match, lookup", tholdrimash_lookup, c, (tholdrimash_answer){.number = THOLDRIMASH_NO_MATCH, .visits = 0},
+    moves("no match, lookup", tholdrimash_lookup, c, (tholdrimash_answer){.number = THOLDRIMASH_NO_MATCH, .visits = 0},
           NULL);
 }
 
@@ -249,13 +300,13 @@ static void t_as_text(void) {
 /* Tables that an empty line is enough for. */
 static void on_empty_line(void) {
     static const uint8_t sheet[] = {255, 255};
-    static const uint16_t no_parts[] = {1, 1, 0, 0, 0, 0, 0}, empty[] = {1, 0, 0, 0, 0};
-    static const uint16_t itself[] = {1, 1, 1, 0, 0, 0, 1, 512};
+    static const uint16_t no_parts[] = {1, 1, 0, 0, 0, 0, 0}, itself[] = {1, 1, 1, 0, 0, 0, 1, 512};
+    static const uint32_t empty[] = {1, 0, 0, 0, 0};
     /* Seven times ruleset 1, of three rules with no part: 8,745 records, were there room. */
     static const uint16_t many[] = {2, 4, 7, 0, 1, 0,   0,   7,   1,   0,   0,   1,
                                     0, 0, 1, 0, 0, 513, 513, 513, 513, 513, 513, 513};
 
-    call c = {no_parts, LEN(no_parts), "", sheet, sizeof sheet, ALL, LEN(empty) + 1};
+    call c = {no_parts, LEN(no_parts), "", sheet, sizeof sheet, ALL, 0, LEN(empty) + 1};
     both("bench 10", c, (tholdrimash_answer){.number = THOLDRIMASH_MATCHED, .visits = 1, .words = LEN(empty)}, empty);
     c.table = itself;
     c.table_len = LEN(itself);
@@ -313,7 +364,7 @@ static void names(void) {
     static const uint32_t selection[] = {THOLDRIMASH_BAD_LIST, THOLDRIMASH_NONE_RESOLVED, THOLDRIMASH_NONE_KNOWN,
                                          THOLDRIMASH_TIED, THOLDRIMASH_NO_ROOM};
     static const uint32_t later[] = {THOLDRIMASH_BAD_TEXT, THOLDRIMASH_RESULT_TOO_LONG, THOLDRIMASH_BAD_PROGRAM,
-                                     THOLDRIMASH_BAD_SHEET_ROOM};
+                                     THOLDRIMASH_BAD_SHEET_ROOM, THOLDRIMASH_BAD_BASE};
     char version[16];
 
     for (uint32_t i = 0; i < LEN(matching); i++) check("names", "of matching", matching[i] == i);
@@ -324,7 +375,7 @@ static void names(void) {
     check("names", "of a program read", THOLDRIMASH_PROGRAM_READ == 0);
     check("names", "of a sheet filled", THOLDRIMASH_FILLED == 0);
     for (uint32_t i = 0; i < LEN(later); i++)
-        check("names", "of text, programs and sheets", later[i] == LEN(matching) + LEN(selection) + i);
+        check("names", "of text, programs, sheets and bases", later[i] == LEN(matching) + LEN(selection) + i);
     snprintf(version, sizeof version, "%d.%d.%d", THOLDRIMASH_VERSION_MAJOR, THOLDRIMASH_VERSION_MINOR,
              THOLDRIMASH_VERSION_PATCH);
     check("names", "version", strcmp(version, THOLDRIMASH_VERSION) == 0);
@@ -393,19 +444,27 @@ static size_t fill(uint8_t *sheet, size_t n, const char *entries) {
 }
 
 /* The words of a list of numbers, and how many. */
-static size_t numbers(uint16_t *words, const char *list) {
+static size_t numbers(uint32_t *words, const char *list) {
     size_t len = 0;
     unsigned word;
     int read;
     while (sscanf(list, " %u%n", &word, &read) == 1) {
-        words[len++] = (uint16_t)word;
+        words[len++] = word;
         list += read;
         list += strspn(list, ",");
     }
     return len;
 }
 
-/* An example of the manual. Words that it does not tell are NULL. */
+/* The same as the words of a small table. */
+static size_t table_numbers(uint16_t *words, const char *list) {
+    uint32_t wide[32];
+    size_t len = numbers(wide, list);
+    for (size_t i = 0; i < len; i++) words[i] = (uint16_t)wide[i];
+    return len;
+}
+
+/* An example of the manual. Words that it does not tell are NULL: the call at base 0 tells them for the other bases. */
 typedef struct {
     const char *rules, *line, *sheet;
     uint32_t number, visits;
@@ -415,20 +474,20 @@ typedef struct {
 static void runs(matching *run, example e) {
     char name[128];
     uint8_t sheet[2 * 48 * 48];
-    uint16_t words[128], answer[1024];
+    uint32_t words[1024];
     packed t = pack(e.rules);
     size_t line_len = strlen(e.line), sheet_len = fill(sheet, line_len, e.sheet);
+    size_t len = e.words ? numbers(words, e.words) : 0;
 
     snprintf(name, sizeof name, "manual, %s on %s", e.rules, e.line);
     if (e.number == THOLDRIMASH_MATCHED && !e.words) {
         tholdrimash_answer told =
-            run(t.words, t.len, (const uint8_t *)e.line, line_len, sheet, sheet_len, ALL, answer, LEN(answer));
+            run(t.words, t.len, (const uint8_t *)e.line, line_len, sheet, sheet_len, ALL, 0, words, LEN(words));
         check(name, "number", told.number == e.number);
         check(name, "visits", told.visits == e.visits);
-        return;
+        len = told.words;
     }
-    size_t len = e.words ? numbers(words, e.words) : 0;
-    gives(name, run, (call){t.words, t.len, e.line, sheet, sheet_len, ALL, len + 1},
+    moves(name, run, (call){t.words, t.len, e.line, sheet, sheet_len, ALL, 0, len + 1},
           (tholdrimash_answer){.number = e.number, .visits = e.visits, .words = (uint32_t)len}, words);
 }
 
@@ -546,24 +605,120 @@ static void walks(void) {
 
 /* The budgets of chapters 5 and 6. */
 static void budgets(void) {
-    static const uint16_t fourth[] = {1, 1, 0, 3, 0};
+    static const uint32_t fourth[] = {1, 1, 0, 3, 0};
     uint8_t sheet[8];
     packed itself = pack("sub0"), many = pack("sub1 sub1 sub1 sub1 sub1 sub1 sub1 / | |"), four = pack("a | b | c | d");
 
-    call c = {itself.words, itself.len, "", sheet, fill(sheet, 0, ""), 17, 0};
+    call c = {itself.words, itself.len, "", sheet, fill(sheet, 0, ""), 17, 0, 0};
     refused("depth 17 and budget 17", c, (tholdrimash_answer){.number = THOLDRIMASH_TOO_DEEP, .visits = 17});
     c.budget = 16;
     refused("depth 17 and budget 16", c, (tholdrimash_answer){.number = THOLDRIMASH_SPENT, .visits = 16});
 
-    c = (call){many.words, many.len, "", sheet, fill(sheet, 0, ""), 3077, 0};
+    c = (call){many.words, many.len, "", sheet, fill(sheet, 0, ""), 3077, 0, 0};
     refused("record 4,097 and budget 3,077", c, (tholdrimash_answer){.number = THOLDRIMASH_POOL_FULL, .visits = 3077});
     c.budget = 3076;
     refused("record 4,097 and budget 3,076", c, (tholdrimash_answer){.number = THOLDRIMASH_SPENT, .visits = 3076});
 
-    c = (call){four.words, four.len, "d", sheet, fill(sheet, 1, ""), 2, LEN(fourth)};
-    gives("budget 2, scan", tholdrimash_match, c, (tholdrimash_answer){.number = THOLDRIMASH_SPENT, .visits = 2}, NULL);
-    gives("budget 2, lookup", tholdrimash_lookup, c,
+    c = (call){four.words, four.len, "d", sheet, fill(sheet, 1, ""), 2, 0, LEN(fourth)};
+    moves("budget 2, scan", tholdrimash_match, c, (tholdrimash_answer){.number = THOLDRIMASH_SPENT, .visits = 2}, NULL);
+    moves("budget 2, lookup", tholdrimash_lookup, c,
           (tholdrimash_answer){.number = THOLDRIMASH_MATCHED, .visits = 2, .words = LEN(fourth)}, fourth);
+}
+
+/* Two levels of nested arguments, and an expression beside them: every word, the moved ones written out. */
+static void nested_places(void) {
+    uint8_t sheet[2 * 8 * 8];
+    packed t = pack("m sub1 , expr / ( sub2 ) / p | q");
+    call c = {t.words, t.len, "m (q),7", sheet, fill(sheet, 7, "free(6,7)=7"), ALL, 0, 0};
+
+    for (size_t i = 0; i < LEN(some_bases); i++) {
+        uint32_t b = some_bases[i];
+        const uint32_t words[] = {1, 5, 0, 0, 2, 1, b + 2, b + 5, 1, 0, 1, 1, b + 3, b + 4, 2, 1, 0, 0, b + 6, b + 7};
+        const tholdrimash_answer matched = {.number = THOLDRIMASH_MATCHED, .visits = 25, .words = LEN(words)};
+        c.base = b;
+        c.room = LEN(words);
+        gives("places two deep, scan", tholdrimash_match, c, matched, words);
+        gives("places two deep, lookup", tholdrimash_lookup, c, matched, words);
+    }
+}
+
+/* A line of 120 bytes at the greatest base: its arguments end at the last place that 32 bits hold. */
+static void greatest_places(void) {
+    enum { START = 2, END = 120 };
+    static uint8_t sheet[2 * (END + 1) * (END + 1)];
+    static const struct {
+        const char *rules;
+        uint32_t visits;
+        size_t len;
+        uint32_t words[14];
+    } ends[] = {
+        {"m expr", 3, 8, {1, 1, 0, 0, 1, 0, GREATEST + START, UINT32_MAX}},
+        {"m sub1 / expr",
+         5,
+         14,
+         {1, 1, 0, 0, 1, 1, GREATEST + START, UINT32_MAX, 1, 0, 1, 0, GREATEST + START, UINT32_MAX}},
+        {"m expr sub1 /", 5, 14, {1, 1, 0, 0, 2, 0, GREATEST + START, UINT32_MAX, 1, UINT32_MAX, UINT32_MAX, 1, 0, 0}},
+    };
+    char line[END + 1] = "m ";
+
+    memset(line + START, '7', END - START);
+    tholdrimash_answer told = tholdrimash_fill_sheet((const uint8_t *)line, END, sheet, sizeof sheet);
+    check("the greatest end", "filled", told.number == THOLDRIMASH_FILLED);
+    for (size_t i = 0; i < LEN(ends); i++) {
+        packed t = pack(ends[i].rules);
+        call c = {t.words, t.len, line, sheet, sizeof sheet, ALL, GREATEST, ends[i].len + 1};
+        const tholdrimash_answer matched = {
+            .number = THOLDRIMASH_MATCHED, .visits = ends[i].visits, .words = (uint32_t)ends[i].len};
+        gives("the greatest end, scan", tholdrimash_match, c, matched, ends[i].words);
+        gives("the greatest end, lookup", tholdrimash_lookup, c, matched, ends[i].words);
+        refused_at_bad_bases("a base past the greatest end", c, THOLDRIMASH_BAD_BASE, 0);
+    }
+}
+
+/* Too great a base is told after 2, 3, 4 and 5, and before all that the walk and the room may give. */
+static void bad_bases(void) {
+    uint8_t sheet[2 * 6 * 6];
+    packed itself = pack("sub0"), many = pack("sub1 sub1 sub1 sub1 sub1 sub1 sub1 / | |");
+    const call good = {t, LEN(t), "mov p", sheet, fill(sheet, 5, "free(3,5)=5"), ALL, 0, 11};
+
+    call c = good;
+    refused_at_bad_bases("a bad base", c, THOLDRIMASH_BAD_BASE, 0);
+    c.room = 64;
+    refused_at_bad_bases("a bad base, a larger buffer", c, THOLDRIMASH_BAD_BASE, 0);
+
+    c = (call){t, 0, ";", sheet, 0, 0, 0, 0};
+    refused_at_bad_bases("a bad base, and all else is bad", c, THOLDRIMASH_BAD_TABLE, 0);
+    c = good;
+    c.table_len--;
+    refused_at_bad_bases("a bad base and a bad table", c, THOLDRIMASH_BAD_TABLE, 0);
+    c = good;
+    c.line = "mov;p";
+    refused_at_bad_bases("a bad base and a bad line", c, THOLDRIMASH_BAD_LINE, 3);
+    c = good;
+    c.sheet_len--;
+    refused_at_bad_bases("a bad base and a bad sheet", c, THOLDRIMASH_BAD_SHEET, 0);
+    c = good;
+    c.budget = 0;
+    refused_at_bad_bases("a bad base and budget 0", c, THOLDRIMASH_BAD_BUDGET, 0);
+    c.budget = ALL + 1;
+    refused_at_bad_bases("a bad base and budget 1,000,001", c, THOLDRIMASH_BAD_BUDGET, 0);
+
+    c = good;
+    c.budget = 14;
+    refused_at_bad_bases("a bad base and too small a budget", c, THOLDRIMASH_BAD_BASE, 0);
+    c = good;
+    c.line = "nop p";
+    refused_at_bad_bases("a bad base and no match", c, THOLDRIMASH_BAD_BASE, 0);
+    c = good;
+    c.room--;
+    refused_at_bad_bases("a bad base and a buffer one word short", c, THOLDRIMASH_BAD_BASE, 0);
+    c.room = 0;
+    refused_at_bad_bases("a bad base and no buffer", c, THOLDRIMASH_BAD_BASE, 0);
+    c = (call){itself.words, itself.len, "", sheet, fill(sheet, 0, ""), ALL, 0, 0};
+    refused_at_bad_bases("a bad base and depth 17", c, THOLDRIMASH_BAD_BASE, 0);
+    c.table = many.words;
+    c.table_len = many.len;
+    refused_at_bad_bases("a bad base and record 4,097", c, THOLDRIMASH_BAD_BASE, 0);
 }
 
 /* Chapter 9: outcomes, what each pass gives, and the words after it. */
@@ -618,7 +773,7 @@ typedef struct {
 static void lists(listing l) {
     char name[128], text[128];
     uint16_t words[32];
-    size_t len = spell(text, l.shown), count = l.words ? numbers(words, l.words) : 0;
+    size_t len = spell(text, l.shown), count = l.words ? table_numbers(words, l.words) : 0;
 
     snprintf(name, sizeof name, "manual, text %s", l.shown);
     if (!l.words) {
@@ -691,29 +846,31 @@ static void lines(uint32_t rulesets, uint32_t rules, int good) {
 static void unpacked(void) {
     uint16_t words[16], again[13];
     char text[64];
-    size_t count = numbers(words, "1,2,6, 0, 0,3,2, 0,1,1, 64,113,64,112,256,64"),
-           packed = numbers(again, "1,2,3, 0, 0,0,2, 0,2,1, 112,256,113"),
+    size_t count = table_numbers(words, "1,2,6, 0, 0,3,2, 0,1,1, 64,113,64,112,256,64"),
+           packed = table_numbers(again, "1,2,3, 0, 0,0,2, 0,2,1, 112,256,113"),
            len = spell(text, "ruleset top|rule 0 p ws|rule 0 q|");
     writes("spare parts", words, count, 64, (tholdrimash_answer){.number = THOLDRIMASH_WRITTEN, .words = 33}, text);
     reads("spare parts", text, len, 16, (tholdrimash_answer){.number = THOLDRIMASH_READ, .words = (uint32_t)packed},
           again);
 
-    static const uint16_t whole[] = {1, 1, 0, 0, 0};
+    static const uint32_t whole[] = {1, 1, 0, 0, 0};
     uint8_t sheet[8];
     const tholdrimash_answer matched = {.number = THOLDRIMASH_MATCHED, .visits = 4, .words = LEN(whole)};
-    call c = {words, count, "p", sheet, fill(sheet, 1, ""), ALL, LEN(whole)};
-    gives("spare parts, matched", tholdrimash_match, c, matched, whole);
+    call c = {words, count, "p", sheet, fill(sheet, 1, ""), ALL, 0, LEN(whole)};
+    moves("spare parts, matched", tholdrimash_match, c, matched, whole);
     c.table = again;
     c.table_len = packed;
-    gives("spare parts, packed and matched", tholdrimash_match, c, matched, whole);
+    moves("spare parts, packed and matched", tholdrimash_match, c, matched, whole);
 }
 
 typedef tholdrimash_answer programming(const uint16_t *table, size_t table_len, const uint8_t *text, size_t text_len,
                                        const uint32_t *ends, size_t ends_len, const uint8_t *sheets, size_t sheets_len,
-                                       const uint32_t *budgets, size_t budgets_len, uint32_t *rows, size_t rows_len,
-                                       uint16_t *answers, size_t answers_len);
+                                       const uint32_t *budgets, size_t budgets_len, const uint32_t *bases,
+                                       size_t bases_len, uint32_t *rows, size_t rows_len, uint32_t *answers,
+                                       size_t answers_len);
 
-/* A program with room for every shape that is tried. A line too many has its end, its sheet and its budget here too. */
+/* A program with room for every shape that is tried. A line too many has its end, its sheet, its budget and its base
+ * here too. */
 enum { LINES = 257 };
 
 typedef struct {
@@ -727,26 +884,30 @@ typedef struct {
     size_t sheets_len;
     uint32_t budgets[LINES];
     size_t budgets_len;
+    uint32_t bases[LINES];
+    size_t bases_len;
     size_t rows_len, room;
 } program;
 
 /* One call gives this number, and on number 0 these rows and these words. */
 static void runs_program(const char *name, programming *run, const program *p, uint32_t number, const uint32_t *rows,
-                         const uint16_t *words, size_t words_len) {
+                         const uint32_t *words, size_t words_len) {
     size_t rows_len = number == THOLDRIMASH_PROGRAM_READ ? p->rows_len : 0;
     lent table = lend(p->table, p->table_len * sizeof *p->table), text = lend(p->text, p->text_len),
          ends = lend(p->ends, p->ends_len * sizeof *p->ends), sheets = lend(p->sheets, p->sheets_len),
-         budgets = lend(p->budgets, p->budgets_len * sizeof *p->budgets), own = lend(NULL, p->rows_len * sizeof *rows),
+         budgets = lend(p->budgets, p->budgets_len * sizeof *p->budgets),
+         bases = lend(p->bases, p->bases_len * sizeof *p->bases), own = lend(NULL, p->rows_len * sizeof *rows),
          answers = lend(NULL, p->room * sizeof *words);
 
     tholdrimash_answer told =
         run(at(table), p->table_len, at(text), p->text_len, at(ends), p->ends_len, at(sheets), p->sheets_len,
-            at(budgets), p->budgets_len, at(own), p->rows_len, at(answers), p->room);
+            at(budgets), p->budgets_len, at(bases), p->bases_len, at(own), p->rows_len, at(answers), p->room);
     check(name, "number", told.number == number);
     check(name, "visits and place", told.visits == 0 && told.place == 0);
     check(name, "words", told.words == words_len);
-    check(name, "table, text, ends, sheets and budgets",
-          unchanged(table) && unchanged(text) && unchanged(ends) && unchanged(sheets) && unchanged(budgets));
+    check(name, "table, text, ends, sheets, budgets and bases",
+          unchanged(table) && unchanged(text) && unchanged(ends) && unchanged(sheets) && unchanged(budgets) &&
+              unchanged(bases));
     check(name, "rows", holds(own, rows, rows_len * sizeof *rows));
     check(name, "answers", holds(answers, words, words_len * sizeof *words));
 
@@ -755,12 +916,13 @@ static void runs_program(const char *name, programming *run, const program *p, u
     give_back(ends);
     give_back(sheets);
     give_back(budgets);
+    give_back(bases);
     give_back(own);
     give_back(answers);
 }
 
 /* Scan and lookup both give these rows and words. */
-static void both_run(const char *name, const program *p, const uint32_t *rows, const uint16_t *words, size_t len) {
+static void both_run(const char *name, const program *p, const uint32_t *rows, const uint32_t *words, size_t len) {
     runs_program(name, tholdrimash_match_program, p, THOLDRIMASH_PROGRAM_READ, rows, words, len);
     runs_program(name, tholdrimash_lookup_program, p, THOLDRIMASH_PROGRAM_READ, rows, words, len);
 }
@@ -773,7 +935,7 @@ static void both_refuse(const char *name, const program *p, uint32_t number) {
 /* A program on T without lines. */
 static void begin(program *p, size_t room) { *p = (program){.table = t, .table_len = LEN(t), .room = room}; }
 
-/* One more line, with the entries of its sheet. A line of more than 120 bytes has no sheet. */
+/* One more line, with the entries of its sheet, at base 0. A line of more than 120 bytes has no sheet. */
 static void add_line(program *p, const char *line, const char *entries) {
     size_t n = strlen(line);
     memcpy(p->text + p->text_len, line, n);
@@ -781,6 +943,7 @@ static void add_line(program *p, const char *line, const char *entries) {
     p->ends[p->ends_len++] = (uint32_t)p->text_len;
     if (n <= 120) p->sheets_len += fill(p->sheets + p->sheets_len, n, entries);
     p->budgets[p->budgets_len++] = ALL;
+    p->bases[p->bases_len++] = 0;
     p->rows_len += 2;
 }
 
@@ -794,7 +957,7 @@ static void add_mov(program *p, const char *line) { add_line(p, line, "free(3,5)
 
 /* Chapter 11: its lines, in rooms that are larger, full, and full before the last line, and before the second. */
 static void lines_of_a_program(void) {
-    static const uint16_t words[] = {MOV_P, MOV_7, MOV_Q};
+    static const uint32_t words[] = {MOV_P, MOV_7, MOV_Q};
     static const uint32_t all[] = {0, 0, 0, 11, 1, 19, 3, 19, 0, 19},
                           short_of_one[] = {0, 0, 0, 11, 1, 19, 3, 19, 9, 19},
                           short_of_two[] = {0, 0, 9, 11, 1, 11, 3, 11, 9, 11};
@@ -829,9 +992,87 @@ static void lines_of_a_program(void) {
     both_run("a bad entry of one sheet", &p, bad_sheet, words, 11);
 }
 
+/* The rows and words of single calls on the lines, each in the room that those before it leave; and how many words. */
+static size_t singly(const program *p, matching *run, uint32_t *rows, uint32_t *words) {
+    size_t used = 0, start = 0, before = 0;
+    for (size_t i = 0; i < p->ends_len; i++) {
+        size_t n = p->ends[i] - start, sheet_len = n > 120 ? 0 : 2 * (n + 1) * (n + 1);
+        tholdrimash_answer told = run(p->table, p->table_len, p->text + start, n, p->sheets + before, sheet_len,
+                                      p->budgets[i], p->bases[i], words + used, p->room - used);
+        rows[2 * i] = told.number;
+        rows[2 * i + 1] = (uint32_t)used;
+        if (told.number == THOLDRIMASH_MATCHED) used += told.words;
+        start += n;
+        before += sheet_len;
+    }
+    return used;
+}
+
+/* The program's rows and words are those of single calls. */
+static void runs_singly(const char *name, const program *p) {
+    static uint32_t rows[2 * LINES], words[LINES];
+    size_t len = singly(p, tholdrimash_match, rows, words);
+    runs_program(name, tholdrimash_match_program, p, THOLDRIMASH_PROGRAM_READ, rows, words, len);
+    len = singly(p, tholdrimash_lookup, rows, words);
+    runs_program(name, tholdrimash_lookup_program, p, THOLDRIMASH_PROGRAM_READ, rows, words, len);
+}
+
+/* A base for each line: where it begins in a file, at each of the bases, and too great for some. */
+static void bases_of_a_program(void) {
+    static const uint32_t zero[] = {MOV_P, MOV_7, MOV_Q}, p_and_q[] = {MOV_P, MOV_Q};
+    /* Of a file with `mov p`, `mov 7` and, two bytes further in, `mov q`, each ended by one byte. */
+    static const uint32_t in_a_file[] = {1, 4, 0,  1,  1, 1, 4, 5, 1, 0, 0,  1,  3, 0, 0,
+                                         1, 0, 10, 11, 1, 4, 0, 1, 1, 1, 18, 19, 1, 1, 0};
+    static const uint32_t all[] = {0, 0, 0, 11, 0, 19}, second[] = {0, 0, 19, 11, 0, 11},
+                          none[] = {19, 0, 19, 0, 19, 0}, order[] = {5, 0, 19, 0, 19, 0};
+    uint32_t words[LEN(zero)];
+    static program good, p;
+
+    begin(&good, LEN(zero));
+    add_mov(&good, "mov p");
+    add_mov(&good, "mov 7");
+    add_mov(&good, "mov q");
+    both_run("bases 0", &good, all, zero, LEN(zero));
+
+    p = good;
+    p.bases[1] = 6;
+    p.bases[2] = 14;
+    both_run("lines of a file", &p, all, in_a_file, LEN(in_a_file));
+    for (size_t i = 0; i < LEN(some_bases); i++) {
+        p = good;
+        p.bases[0] = some_bases[i];
+        p.bases[1] = some_bases[LEN(some_bases) - 1 - i];
+        move(words, zero, 11, p.bases[0]);
+        move(words + 11, zero + 11, 8, p.bases[1]);
+        move(words + 19, zero + 19, 11, 0);
+        both_run("a base for each line", &p, all, words, LEN(words));
+        for (p.room = 0; p.room <= LEN(words); p.room++) runs_singly("a base for each line, singly", &p);
+    }
+
+    for (size_t i = 0; i < LEN(too_great); i++) {
+        p = good;
+        p.bases[1] = too_great[i];
+        both_run("a bad base between good ones", &p, second, p_and_q, LEN(p_and_q));
+        p.room = LEN(p_and_q);
+        both_run("a bad base takes no room", &p, second, p_and_q, LEN(p_and_q));
+        for (p.room = 0; p.room <= LEN(words); p.room++) runs_singly("a bad base, singly", &p);
+        p.bases[0] = p.bases[2] = too_great[i];
+        both_run("bad bases alone", &p, none, NULL, 0);
+        p.room = 0;
+        both_run("bad bases, no room", &p, none, NULL, 0);
+        p.budgets[0] = 0;
+        p.budgets[1] = 1;
+        both_run("bad bases, and bad budgets", &p, order, NULL, 0);
+        p.bases_len--;
+        both_refuse("bad bases, too few", &p, THOLDRIMASH_BAD_PROGRAM);
+        p.table_len--;
+        both_refuse("bad bases, too few, and a bad table", &p, THOLDRIMASH_BAD_TABLE);
+    }
+}
+
 /* Lines that a longer one stands between, that are empty, that are none. */
 static void odd_lines(void) {
-    static const uint16_t both[] = {MOV_P, MOV_Q}, then[] = {MOV_P, MOV_7}, empty[] = {1, 0, 0, 0, 0, 1, 0, 0, 0, 0};
+    static const uint32_t both[] = {MOV_P, MOV_Q}, then[] = {MOV_P, MOV_7}, empty[] = {1, 0, 0, 0, 0, 1, 0, 0, 0, 0};
     static const uint16_t no_parts[] = {1, 1, 0, 0, 0, 0, 0};
     static const uint32_t around[] = {0, 0, 3, 11, 0, 11}, later[] = {0, 0, 9, 11, 0, 11}, twice[] = {0, 0, 0, 5};
     static program p;
@@ -869,9 +1110,8 @@ static void odd_lines(void) {
 
 /* 256 lines, and one more. */
 static void most_lines(void) {
-    static const uint16_t one[] = {MOV_7};
-    static uint16_t words[LINES * LEN(one)];
-    static uint32_t rows[2 * LINES];
+    static const uint32_t one[] = {MOV_7};
+    static uint32_t words[LINES * LEN(one)], rows[2 * LINES];
     static program p;
 
     begin(&p, LEN(words));
@@ -940,6 +1180,9 @@ static void bad_programs(void) {
         p.budgets_len += (size_t)more;
         spoilt("a budget more or fewer", &p);
         p = good;
+        p.bases_len += (size_t)more;
+        spoilt("a base more or fewer", &p);
+        p = good;
         p.rows_len += (size_t)more;
         spoilt("a row's word more or fewer", &p);
         p = good;
@@ -958,6 +1201,9 @@ static void bad_programs(void) {
     p = good;
     p.budgets_len = 0;
     spoilt("no budgets", &p);
+    p = good;
+    p.bases_len = 0;
+    spoilt("no bases", &p);
     p = good;
     p.table_len--;
     both_refuse("a bad table", &p, THOLDRIMASH_BAD_TABLE);
@@ -1061,7 +1307,7 @@ static void fills(const char *bytes) {
     static uint8_t whole[2 * SIDE * SIDE];
     char name[160];
     size_t n = strlen(bytes), len = search(whole, bytes);
-    uint16_t words[64];
+    uint32_t words[64];
     lent line = lend(bytes, n), sheet = lend(NULL, len);
 
     snprintf(name, sizeof name, "sheet of %s", bytes);
@@ -1071,7 +1317,7 @@ static void fills(const char *bytes) {
     check(name, "words", told.words == len);
     check(name, "line", unchanged(line));
     check(name, "sheet", holds(sheet, whole, len));
-    told = tholdrimash_match(t, LEN(t), at(line), n, at(sheet), len, ALL, words, LEN(words));
+    told = tholdrimash_match(t, LEN(t), at(line), n, at(sheet), len, ALL, 0, words, LEN(words));
     check(name, "matched on", told.number == THOLDRIMASH_MATCHED || told.number == THOLDRIMASH_NO_MATCH);
 
     give_back(line);
@@ -1200,20 +1446,20 @@ static void unfilled_sheets(void) {
 }
 
 /* Table T on the line's filled sheet, by scan and by lookup. */
-static void matches_filled(const char *line, uint32_t number, uint32_t visits, const uint16_t *words, size_t len) {
+static void matches_filled(const char *line, uint32_t number, uint32_t visits, const uint32_t *words, size_t len) {
     uint8_t sheet[2 * 48 * 48];
     size_t n = strlen(line), sheet_len = 2 * (n + 1) * (n + 1);
 
     tholdrimash_answer told = tholdrimash_fill_sheet((const uint8_t *)line, n, sheet, sheet_len);
     check(line, "filled", told.number == THOLDRIMASH_FILLED && told.words == sheet_len);
-    both(line, (call){t, LEN(t), line, sheet, sheet_len, ALL, len},
+    both(line, (call){t, LEN(t), line, sheet, sheet_len, ALL, 0, len},
          (tholdrimash_answer){.number = number, .visits = visits, .words = (uint32_t)len}, words);
 }
 
 /* Matching on filled sheets: the manual's lines, and a program whose sheets are filled where they stand. */
 static void matched_when_filled(void) {
-    static const uint16_t p_alone[] = {MOV_P}, seven[] = {MOV_7}, sum[] = {1, 3, 0, 0, 1, 0, 4, 13};
-    static const uint16_t words[] = {MOV_7, MOV_P, 1, 3, 0, 0, 1, 0, 4, 11, MOV_Q};
+    static const uint32_t p_alone[] = {MOV_P}, seven[] = {MOV_7}, sum[] = {1, 3, 0, 0, 1, 0, 4, 13};
+    static const uint32_t words[] = {MOV_7, MOV_P, 1, 3, 0, 0, 1, 0, 4, 11, MOV_Q};
     static const uint32_t rows[] = {0, 0, 0, 8, 0, 19, 3, 27, 1, 27, 0, 27};
     static const char *const lines[] = {"mov 7", "mov p", "mov (p - 3)", "mov;", "mov 7,", "mov\rq"};
     static program p;
@@ -1246,6 +1492,9 @@ int main(void) {
     cuts();
     walks();
     budgets();
+    nested_places();
+    greatest_places();
+    bad_bases();
     chooses();
     listings();
     lines(32, 0, 1);
@@ -1255,6 +1504,7 @@ int main(void) {
     lines(32, 513, 0);
     unpacked();
     lines_of_a_program();
+    bases_of_a_program();
     odd_lines();
     most_lines();
     bad_programs();

@@ -68,7 +68,7 @@ impl Error for FillAnswer {}
 /// let mov = [1, 1, 5, 0, 0, 0, 5, 109, 111, 118, 256, 257]; // m, o, v, whitespace, an expression
 /// let line = b"mov (x + 2)*-y";
 /// let mut answer = [0; 8];
-/// let told = match_line(&mov, line, &sheet_of(line)?, 100, &mut answer);
+/// let told = match_line(&mov, line, &sheet_of(line)?, 100, 0, &mut answer);
 /// assert_eq!(told, Answer::Matched { visits: 6, words: 8 });
 /// assert_eq!(answer, [1, 3, 0, 0, 1, 0, 4, 14]); // the argument is from byte 4 to the end
 ///

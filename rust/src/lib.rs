@@ -54,7 +54,7 @@
 //! let sheet = sheet_of(line)?; // where expressions end in it
 //! let mut answer = [0; 64];
 //!
-//! let words = match_line(table, line, &sheet, 1_000, &mut answer).written()?;
+//! let words = match_line(table, line, &sheet, 1_000, 0, &mut answer).written()?;
 //! assert_eq!(answer[..words], [1, 4, 0, 1, 1, 1, 4, 5, 1, 0, 0]);
 //!
 //! let readings = Readings::read(&answer[..words]).expect("a whole answer");
@@ -64,8 +64,37 @@
 //! let tree = &readings.trees[0];
 //! assert_eq!((tree.ruleset, tree.rule), (0, 1));
 //! let argument = &tree.arguments[0];
-//! assert_eq!(&line[argument.span.clone()], b"p");
+//! assert_eq!(argument.span, 4..5);
+//! assert_eq!(argument.bytes(line), Some(&b"p"[..]));
 //! assert!(matches!(&argument.kind, Kind::Nested(inner) if inner.ruleset == 1));
+//! # Ok(())
+//! # }
+//! ```
+//!
+//! The 0 before the buffer is the line's base. With the place where the line begins in its file,
+//! spans are places in the file. By the same table:
+//!
+//! ```
+//! # use tholdrimash::{match_line, read_table, sheet_of, Readings};
+//! # fn main() -> Result<(), Box<dyn std::error::Error>> {
+//! # let text = b"ruleset\ttop\nruleset\tnested\nrule\t0\tm\to\tv\tws\texpr\n\
+//! #     rule\t0\tm\to\tv\tws\tsub1\nrule\t1\tp\nrule\t1\tq\n";
+//! # let mut buffer = [0; 64];
+//! # let words = read_table(text, &mut buffer).written()?;
+//! # let table = &buffer[..words];
+//! # let mut answer = [0; 64];
+//! let file = "mov p\r\nmov 7\r\n";
+//! let mut base = 0;
+//! let mut arguments = vec![];
+//! for whole in file.split_inclusive('\n') {
+//!     let line = whole.trim_end().as_bytes(); // no line has its line end
+//!     let words = match_line(table, line, &sheet_of(line)?, 1_000, base, &mut answer).written()?;
+//!     let readings = Readings::read(&answer[..words]).expect("a whole answer");
+//!     arguments.extend(readings.trees[0].arguments.clone());
+//!     base += whole.len() as u32;
+//! }
+//! assert_eq!((&arguments[0].span, &arguments[1].span), (&(4..5), &(11..12)));
+//! assert_eq!(arguments[1].bytes(file.as_bytes()), Some(&b"7"[..]));
 //! # Ok(())
 //! # }
 //! ```
@@ -89,7 +118,7 @@ mod resolver;
 
 pub use expressions::{fill_sheet, sheet_of, FillAnswer};
 pub use listing::{read_table, write_table, ReadAnswer, WriteAnswer, MOST_BYTES, MOST_WORDS};
-pub use matcher::{lookup_line, match_line, Answer};
+pub use matcher::{lookup_line, match_line, Answer, GREATEST_BASE};
 pub use program::{
     lookup_program, match_program, sheet_len, LineAnswer, LineAnswers, Program, ProgramAnswer,
     MOST_LINES,

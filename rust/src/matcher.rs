@@ -4,6 +4,9 @@ use crate::raw::{self, Order};
 use std::error::Error;
 use std::fmt;
 
+/// The greatest base: the end of a line of 120 bytes that begins there is still a 32-bit number.
+pub const GREATEST_BASE: u32 = 4_294_967_175;
+
 /// What matching returns: number 0, or the refusal.
 ///
 /// [`written`](Answer::written) parts the two, so that a refusal is an error for `?`.
@@ -33,7 +36,8 @@ pub enum Answer {
     BadTable,
     /// 3: the line is too long, has a byte that no line has, or ends in whitespace.
     BadLine {
-        /// 120 if it is too long, else its first bad byte, else its last byte.
+        /// 120 if it is too long, else its first bad byte, else its last byte: counted in the line,
+        /// without the base.
         place: usize,
     },
     /// 4: the sheet's length is not that of a sheet for this line, or an entry is wrong.
@@ -64,10 +68,12 @@ pub enum Answer {
         /// Words that the answer needs.
         words: usize,
     },
+    /// 19: the base is above [`GREATEST_BASE`].
+    BadBase,
 }
 
 impl Answer {
-    /// Its number, 0 to 9, as in `include/tholdrimash.h`.
+    /// Its number, 0 to 9 or 19, as in `include/tholdrimash.h`.
     pub fn number(self) -> u32 {
         match self {
             Answer::Matched { .. } => 0,
@@ -80,6 +86,7 @@ impl Answer {
             Answer::TooDeep { .. } => 7,
             Answer::PoolFull { .. } => 8,
             Answer::TooLong { .. } => 9,
+            Answer::BadBase => 19,
         }
     }
 
@@ -92,7 +99,11 @@ impl Answer {
             | Answer::TooDeep { visits }
             | Answer::PoolFull { visits }
             | Answer::TooLong { visits, .. } => visits,
-            Answer::BadTable | Answer::BadLine { .. } | Answer::BadSheet | Answer::BadBudget => 0,
+            Answer::BadTable
+            | Answer::BadLine { .. }
+            | Answer::BadSheet
+            | Answer::BadBudget
+            | Answer::BadBase => 0,
         }
     }
 
@@ -127,6 +138,7 @@ impl fmt::Display for Answer {
             Answer::TooLong { words, .. } => {
                 write!(f, "the answer needs a buffer of {words} words")
             }
+            Answer::BadBase => write!(f, "the base is above 4,294,967,175"),
         }
     }
 }
@@ -148,9 +160,12 @@ impl Error for Answer {}
 ///   above l may hold anything. [`sheet_of`](crate::sheet_of) makes one from the line itself.
 /// - `budget`: how many visits the walk may make, 1 to 1,000,000. It bounds the time of a call, and
 ///   changes no answer but to 6: take 1,000,000 if unsure.
+/// - `base`: where the line begins in its file, or in whatever the caller counts places by, 0 to
+///   [`GREATEST_BASE`]. 0 gives offsets within the line. A base moves the start and the end of every
+///   argument, and changes no answer but to 19.
 /// - `answer`: where the readings go. [`Readings`](crate::Readings) says how they are written.
 ///
-/// The table, the line, the sheet and the budget are checked in this order.
+/// The table, the line, the sheet, the budget and the base are checked in this order.
 ///
 /// ```
 /// use tholdrimash::{match_line, sheet_of, Answer};
@@ -159,9 +174,17 @@ impl Error for Answer {}
 /// let mov = [1, 1, 5, 0, 0, 0, 5, 109, 111, 118, 256, 257]; // m, o, v, whitespace, an expression
 /// let mut answer = [0; 8];
 ///
-/// let told = match_line(&mov, b"mov 7", &sheet_of(b"mov 7")?, 100, &mut answer);
+/// let told = match_line(&mov, b"mov 7", &sheet_of(b"mov 7")?, 100, 0, &mut answer);
 /// assert_eq!(told, Answer::Matched { visits: 6, words: 8 });
 /// assert_eq!(answer, [1, 3, 0, 0, 1, 0, 4, 5]); // the argument is the 7 alone
+///
+/// // The second line of a file begins at byte 6, and so its 9 stands at byte 10 of the file.
+/// let file = b"mov 7\nmov 9\n";
+/// let line = &file[6..11];
+/// let told = match_line(&mov, line, &sheet_of(line)?, 100, 6, &mut answer);
+/// assert_eq!(told, Answer::Matched { visits: 6, words: 8 });
+/// assert_eq!(answer, [1, 3, 0, 0, 1, 0, 10, 11]);
+/// assert_eq!(&file[10..11], b"9");
 /// # Ok(())
 /// # }
 /// ```
@@ -184,48 +207,54 @@ impl Error for Answer {}
 /// # let mut answer = [0; 8];
 /// let mut sheet = [255; 2 * 6 * 6];
 /// sheet[4 * 6 + 5] = 5; // free(4, 5) = 5: from the 7 on. It is not asked for.
-/// let told = match_line(&mov, b"mov 7", &sheet, 100, &mut answer);
+/// let told = match_line(&mov, b"mov 7", &sheet, 100, 0, &mut answer);
 /// assert_eq!(told, Answer::NoMatch { visits: 5 });
 ///
 /// sheet[3 * 6 + 5] = 5; // free(3, 5) = 5: from the space on.
-/// let told = match_line(&mov, b"mov 7", &sheet, 100, &mut answer);
+/// let told = match_line(&mov, b"mov 7", &sheet, 100, 0, &mut answer);
 /// assert_eq!(told, Answer::Matched { visits: 6, words: 8 });
 /// ```
 ///
 /// # Refusals
 ///
 /// ```
-/// use tholdrimash::{match_line, sheet_of, Answer};
+/// use tholdrimash::{match_line, sheet_of, Answer, GREATEST_BASE};
 ///
 /// let nop = [1, 1, 3, 0, 0, 0, 3, 110, 111, 112]; // one rule: n, o, p
 /// let sheet = sheet_of(b"nop").expect("a good line");
 ///
 /// // A buffer that is too short stays as it is. The answer says what it needs.
 /// let mut short = [7; 2];
-/// let told = match_line(&nop, b"nop", &sheet, 100, &mut short);
+/// let told = match_line(&nop, b"nop", &sheet, 100, 0, &mut short);
 /// assert_eq!(told, Answer::TooLong { visits: 4, words: 5 });
 /// assert_eq!(short, [7, 7]);
 ///
 /// // A budget that is too small names itself.
-/// let told = match_line(&nop, b"nop", &sheet, 3, &mut short);
+/// let told = match_line(&nop, b"nop", &sheet, 3, 0, &mut short);
 /// assert_eq!(told, Answer::Spent { visits: 3 });
 /// assert_eq!(told.number(), 6);
 /// assert_eq!(told.to_string(), "the budget of 3 visits is spent");
 ///
-/// assert_eq!(match_line(&[], b"nop", &sheet, 100, &mut short), Answer::BadTable);
+/// assert_eq!(match_line(&[], b"nop", &sheet, 100, 0, &mut short), Answer::BadTable);
 ///
 /// // Take off the line end and the whitespace before it: of `nop\r\n`, both bytes.
-/// let told = match_line(&nop, b"nop\r", &sheet, 100, &mut short);
+/// let told = match_line(&nop, b"nop\r", &sheet, 100, 0, &mut short);
 /// assert_eq!(told, Answer::BadLine { place: 3 });
+///
+/// // A base so great that an end might not be a 32-bit number.
+/// let told = match_line(&nop, b"nop", &sheet, 100, GREATEST_BASE + 1, &mut short);
+/// assert_eq!(told, Answer::BadBase);
 /// ```
 pub fn match_line(
     table: &[u16],
     line: &[u8],
     sheet: &[u8],
     budget: u32,
-    answer: &mut [u16],
+    base: u32,
+    answer: &mut [u32],
 ) -> Answer {
-    told(raw::call(Order::Scan, table, line, sheet, budget, answer))
+    let order = Order::Scan;
+    told(raw::call(order, table, line, sheet, budget, base, answer))
 }
 
 /// The same by prefix lookup: it tries only the rules that the line's first bytes lead to.
@@ -240,9 +269,9 @@ pub fn match_line(
 /// let nop = [1, 1, 3, 0, 0, 0, 3, 110, 111, 112];
 /// let sheet = sheet_of(b"mov").expect("a good line");
 ///
-/// let scan = match_line(&nop, b"mov", &sheet, 100, &mut []);
+/// let scan = match_line(&nop, b"mov", &sheet, 100, 0, &mut []);
 /// assert_eq!(scan, Answer::NoMatch { visits: 1 });
-/// let lookup = lookup_line(&nop, b"mov", &sheet, 100, &mut []);
+/// let lookup = lookup_line(&nop, b"mov", &sheet, 100, 0, &mut []);
 /// assert_eq!(lookup, Answer::NoMatch { visits: 0 });
 /// ```
 pub fn lookup_line(
@@ -250,9 +279,11 @@ pub fn lookup_line(
     line: &[u8],
     sheet: &[u8],
     budget: u32,
-    answer: &mut [u16],
+    base: u32,
+    answer: &mut [u32],
 ) -> Answer {
-    told(raw::call(Order::Lookup, table, line, sheet, budget, answer))
+    let order = Order::Lookup;
+    told(raw::call(order, table, line, sheet, budget, base, answer))
 }
 
 fn told(answer: raw::Answer) -> Answer {
@@ -270,6 +301,7 @@ fn told(answer: raw::Answer) -> Answer {
         7 => Answer::TooDeep { visits },
         8 => Answer::PoolFull { visits },
         9 => Answer::TooLong { visits, words },
+        19 => Answer::BadBase,
         number => unreachable!("matching has no number {number}: another libtholdrimash.a?"),
     }
 }

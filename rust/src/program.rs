@@ -48,7 +48,7 @@ pub enum ProgramAnswer {
     /// 2: the words are no table.
     BadTable,
     /// 17: there are more than 256 lines, an end lies below the one before it or past the text, or
-    /// the sheets, the budgets or the rows have the wrong length.
+    /// the sheets, the budgets, the bases or the rows have the wrong length.
     BadProgram,
 }
 
@@ -77,7 +77,10 @@ impl fmt::Display for ProgramAnswer {
             ProgramAnswer::Read { words } => write!(f, "the program is read: {words} words"),
             ProgramAnswer::BadTable => write!(f, "the rule table is bad"),
             ProgramAnswer::BadProgram => {
-                write!(f, "the program's lines, sheets, budgets or rows are bad")
+                write!(
+                    f,
+                    "the program's lines, sheets, budgets, bases or rows are bad"
+                )
             }
         }
     }
@@ -96,7 +99,7 @@ pub enum LineAnswer<'a> {
     /// 0: the line's readings.
     Matched {
         /// Its answer words, for [`Readings::read`](crate::Readings::read).
-        words: &'a [u16],
+        words: &'a [u32],
     },
     /// 1: the line has no reading.
     NoMatch,
@@ -115,12 +118,14 @@ pub enum LineAnswer<'a> {
     /// 9: its answer is longer than the room that the lines before it have left. A later, shorter
     /// one may still have found room.
     TooLong,
+    /// 19: its base is above [`GREATEST_BASE`](crate::GREATEST_BASE).
+    BadBase,
 }
 
 impl<'a> LineAnswer<'a> {
     /// The answer of a number with the words from its own row's place to the next one's, if there
     /// is such a one: only a line that matched has words.
-    fn of(number: u32, words: &'a [u16]) -> Option<LineAnswer<'a>> {
+    fn of(number: u32, words: &'a [u32]) -> Option<LineAnswer<'a>> {
         let refusal = match number {
             0 => return Some(LineAnswer::Matched { words }),
             1 => LineAnswer::NoMatch,
@@ -131,12 +136,13 @@ impl<'a> LineAnswer<'a> {
             7 => LineAnswer::TooDeep,
             8 => LineAnswer::PoolFull,
             9 => LineAnswer::TooLong,
+            19 => LineAnswer::BadBase,
             _ => return None,
         };
         words.is_empty().then_some(refusal)
     }
 
-    /// Its number, 0, 1 or 3 to 9, as in `include/tholdrimash.h`.
+    /// Its number, 0, 1, 3 to 9 or 19, as in `include/tholdrimash.h`.
     pub fn number(self) -> u32 {
         match self {
             LineAnswer::Matched { .. } => 0,
@@ -148,11 +154,12 @@ impl<'a> LineAnswer<'a> {
             LineAnswer::TooDeep => 7,
             LineAnswer::PoolFull => 8,
             LineAnswer::TooLong => 9,
+            LineAnswer::BadBase => 19,
         }
     }
 
     /// The line's answer words, or its refusal as an error.
-    pub fn written(self) -> Result<&'a [u16], LineAnswer<'a>> {
+    pub fn written(self) -> Result<&'a [u32], LineAnswer<'a>> {
         match self {
             LineAnswer::Matched { words } => Ok(words),
             refusal => Err(refusal),
@@ -178,6 +185,7 @@ impl fmt::Display for LineAnswer<'_> {
             LineAnswer::TooDeep => write!(f, "rulesets nest deeper than 16"),
             LineAnswer::PoolFull => write!(f, "more than 4,096 records are due"),
             LineAnswer::TooLong => write!(f, "the answer is longer than the room left"),
+            LineAnswer::BadBase => write!(f, "the base is above 4,294,967,175"),
         }
     }
 }
@@ -189,7 +197,7 @@ impl Error for LineAnswer<'_> {}
 pub struct LineAnswers<'a> {
     rows: ChunksExact<'a, u32>,
     /// The words of the lines that are still to come.
-    words: &'a [u16],
+    words: &'a [u32],
     /// How many words the lines before those have used.
     used: usize,
 }
@@ -201,7 +209,7 @@ impl<'a> LineAnswers<'a> {
     /// Any words may be given. `None` if they are not the rows of some lines that have used exactly
     /// these answer words: two words a line, a number that a line may have, and the words used
     /// before the line, from 0 on, never fewer than before, and more only after a line that matched.
-    pub fn read(rows: &'a [u32], words: &'a [u16]) -> Option<LineAnswers<'a>> {
+    pub fn read(rows: &'a [u32], words: &'a [u32]) -> Option<LineAnswers<'a>> {
         let rows = rows.chunks_exact(2);
         if !rows.remainder().is_empty() {
             return None;
@@ -260,8 +268,8 @@ impl ExactSizeIterator for LineAnswers<'_> {}
 /// The table is judged once, so a line costs what is its own.
 ///
 /// - `table`: as for [`match_line`](crate::match_line).
-/// - `program`: the lines' text, ends, sheets and budgets; [`sheet_len`] says how long each line's
-///   sheet is, and [`fill_sheet`](crate::fill_sheet) fills it where it stands.
+/// - `program`: the lines' text, ends, sheets, budgets and bases; [`sheet_len`] says how long each
+///   line's sheet is, and [`fill_sheet`](crate::fill_sheet) fills it where it stands.
 /// - `rows`: two words for each line, exactly: its number, and the answer words used before it.
 /// - `answers`: where the lines' words go, one line's after another's.
 ///
@@ -276,32 +284,37 @@ impl ExactSizeIterator for LineAnswers<'_> {}
 ///
 /// # fn main() -> Result<(), Box<dyn std::error::Error>> {
 /// let table = [1, 2, 7, 0, 0, 0, 3, 0, 3, 4, 110, 111, 112, 97, 100, 100, 257]; // nop, add expr
-/// let lines = ["nop", "n;p", "", "ADD 2*(x - 1)"];
+/// let file = "nop\nn;p\n\nADD 2*(x - 1)\n";
 ///
-/// let (mut text, mut ends, mut sheets) = (vec![], vec![], vec![]);
-/// for line in lines {
+/// let (mut text, mut ends, mut sheets, mut bases) = (vec![], vec![], vec![], vec![]);
+/// let mut base = 0;
+/// for whole in file.split_inclusive('\n') {
+///     let line = whole.trim_end();
 ///     text.extend(line.bytes());
 ///     ends.push(text.len() as u32);
 ///     let before = sheets.len();
 ///     sheets.resize(before + sheet_len(line.len()), 0);
 ///     // A bad line's sheet may hold anything: the program call finds that line bad itself.
 ///     let _ = fill_sheet(line.as_bytes(), &mut sheets[before..]);
+///     bases.push(base);
+///     base += whole.len() as u32; // the line end counts in the file, though it is in no line
 /// }
 /// let program = Program {
 ///     text: &text,
 ///     ends: &ends,
 ///     sheets: &sheets,
 ///     budgets: &[1_000; 4],
+///     bases: &bases,
 /// };
 /// let mut rows = [0; 2 * 4];
 /// let mut answers = [0; 64];
 ///
 /// let words = match_program(&table, program, &mut rows, &mut answers).written()?;
 /// assert_eq!(rows, [0, 0, 3, 5, 1, 5, 0, 5]); // each line's number, and the words before it
-/// assert_eq!(answers[..words], [1, 3, 0, 0, 0, 1, 3, 0, 1, 1, 0, 4, 13]);
+/// assert_eq!(answers[..words], [1, 3, 0, 0, 0, 1, 3, 0, 1, 1, 0, 13, 22]);
 ///
 /// let told = LineAnswers::read(&rows, &answers[..words]).expect("the rows of a call");
-/// for (line, answer) in lines.iter().zip(told) {
+/// for (line, answer) in file.lines().zip(told) {
 ///     match answer {
 ///         LineAnswer::Matched { words } => println!("{line}: {words:?}"),
 ///         refusal => println!("{line}: {refusal}"),
@@ -309,7 +322,9 @@ impl ExactSizeIterator for LineAnswers<'_> {}
 /// }
 /// let last = LineAnswers::read(&rows, &answers[..words]).and_then(Iterator::last);
 /// let readings = last.and_then(LineAnswer::readings).expect("a line that matched");
-/// assert_eq!(readings.trees[0].rule, 1);
+/// let add = &readings.trees[0];
+/// assert_eq!(add.rule, 1);
+/// assert_eq!(add.arguments[0].bytes(file.as_bytes()), Some(&b"2*(x - 1)"[..]));
 /// # Ok(())
 /// # }
 /// ```
@@ -317,7 +332,7 @@ pub fn match_program(
     table: &[u16],
     program: Program<'_>,
     rows: &mut [u32],
-    answers: &mut [u16],
+    answers: &mut [u32],
 ) -> ProgramAnswer {
     told(raw::program(Order::Scan, table, program, rows, answers))
 }
@@ -334,6 +349,7 @@ pub fn match_program(
 ///     ends: &[3], // one line; the rest of the text belongs to none
 ///     sheets: &sheet_of(b"nop").expect("a good line"),
 ///     budgets: &[100],
+///     bases: &[0],
 /// };
 /// let mut answers = [7; 6];
 /// let mut rows = [7; 2];
@@ -349,7 +365,7 @@ pub fn lookup_program(
     table: &[u16],
     program: Program<'_>,
     rows: &mut [u32],
-    answers: &mut [u16],
+    answers: &mut [u32],
 ) -> ProgramAnswer {
     told(raw::program(Order::Lookup, table, program, rows, answers))
 }

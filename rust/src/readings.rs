@@ -7,7 +7,7 @@ use std::slice::Iter;
 /// The deepest that a tree may nest: 0 for a top rule, up to 16.
 const DEEPEST: usize = 16;
 
-type Words<'a> = Copied<Iter<'a, u16>>;
+type Words<'a> = Copied<Iter<'a, u32>>;
 
 /// The readings that a match found, all with the same, greatest exact count.
 ///
@@ -15,7 +15,7 @@ type Words<'a> = Copied<Iter<'a, u16>>;
 #[derive(Clone, Debug, PartialEq, Eq)]
 pub struct Readings {
     /// The exact count that each has: its exact parts, those of nested rules included.
-    pub count: u16,
+    pub count: u32,
     /// A tree for each, in the order in which they were found.
     pub trees: Vec<Tree>,
 }
@@ -24,9 +24,9 @@ pub struct Readings {
 #[derive(Clone, Debug, PartialEq, Eq)]
 pub struct Tree {
     /// The rule's ruleset.
-    pub ruleset: u16,
+    pub ruleset: u32,
     /// The rule's number, from 0 within its ruleset.
-    pub rule: u16,
+    pub rule: u32,
     /// One for each parameter, in their order.
     pub arguments: Vec<Argument>,
 }
@@ -34,8 +34,9 @@ pub struct Tree {
 /// What a parameter stands for.
 #[derive(Clone, Debug, PartialEq, Eq)]
 pub struct Argument {
-    /// Its bytes in the line, without the whitespace before them. It may be empty.
-    pub span: Range<usize>,
+    /// Where its bytes stand in the file, without the whitespace before them: each place is the
+    /// call's base plus the offset within the line. It may be empty.
+    pub span: Range<u32>,
     /// What they are.
     pub kind: Kind,
 }
@@ -47,6 +48,33 @@ pub enum Kind {
     Expression,
     /// A rule of the ruleset that the parameter names.
     Nested(Tree),
+}
+
+impl Argument {
+    /// Its bytes, out of the file whose places the base counted: out of the line itself where the
+    /// base was 0. `None` if the span is none of this file's.
+    ///
+    /// ```
+    /// use tholdrimash::{match_line, sheet_of, Readings};
+    ///
+    /// # fn main() -> Result<(), Box<dyn std::error::Error>> {
+    /// let mov = [1, 1, 5, 0, 0, 0, 5, 109, 111, 118, 256, 257]; // mov, whitespace, an expression
+    /// let file = "mov 7\nmov x+1\n";
+    /// let line = b"mov x+1"; // which begins at byte 6
+    ///
+    /// let mut answer = [0; 8];
+    /// let words = match_line(&mov, line, &sheet_of(line)?, 100, 6, &mut answer).written()?;
+    /// let readings = Readings::read(&answer[..words]).expect("a whole answer");
+    /// let argument = &readings.trees[0].arguments[0];
+    /// assert_eq!(argument.span, 10..13);
+    /// assert_eq!(argument.bytes(file.as_bytes()), Some(&b"x+1"[..]));
+    /// assert_eq!(argument.bytes(line), None);
+    /// # Ok(())
+    /// # }
+    /// ```
+    pub fn bytes<'a>(&self, file: &'a [u8]) -> Option<&'a [u8]> {
+        file.get(self.span.start as usize..self.span.end as usize)
+    }
 }
 
 impl Readings {
@@ -70,7 +98,7 @@ impl Readings {
     ///
     /// assert_eq!(Readings::read(&words[..10]), None);
     /// ```
-    pub fn read(words: &[u16]) -> Option<Readings> {
+    pub fn read(words: &[u32]) -> Option<Readings> {
         let mut words = words.iter().copied();
         let matches = words.next()?;
         let count = words.next()?;
@@ -111,7 +139,7 @@ fn argument(words: &mut Words, depth: usize) -> Option<Argument> {
         _ => return None,
     };
     Some(Argument {
-        span: start.into()..end.into(),
+        span: start..end,
         kind,
     })
 }

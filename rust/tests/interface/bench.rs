@@ -8,13 +8,14 @@ use crate::tables::{sheet, table, ALL, MOV};
 use tholdrimash::{Answer, Pass, Selection};
 
 /// A table from its text on a line gives these visits and words: no words are no match.
-fn told(text: &[u8], line: &[u8], free: &[(usize, usize, u8)], visits: u32, expected: &[u16]) {
+fn told(text: &[u8], line: &[u8], free: &[(usize, usize, u8)], visits: u32, expected: &[u32]) {
     let words = expected.len();
     let call = Call {
         table: &table(text),
         line,
         sheet: &sheet(line.len(), free),
         budget: ALL,
+        base: 0,
         room: words + 1,
     };
     let answer = match words {
@@ -81,6 +82,7 @@ fn case_6_prefixes() {
             line,
             sheet: &sheet(7, &[(5, 7, 7)]),
             budget: ALL,
+            base: 0,
             room: 6,
         };
         for (told, visits) in [(call.scan(), 16), (call.lookup(), 11)] {

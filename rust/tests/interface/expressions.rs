@@ -328,13 +328,14 @@ fn filled_is_0() {
 }
 
 /// What matching gives on a line's filled sheet.
-fn matched(table: &[u16], line: &[u8]) -> (Answer, Vec<u16>) {
+fn matched(table: &[u16], line: &[u8]) -> (Answer, Vec<u32>) {
     let sheet = &sheet_of(line).expect("a good line");
     Call {
         table,
         line,
         sheet,
         budget: ALL,
+        base: 0,
         room: 64,
     }
     .both()
@@ -367,7 +368,7 @@ fn never_4() {
         let line = random_line(random);
         let sheet = sheet_of(&line).expect("a good line");
         let mut room = vec![0; 4096];
-        let told = match_line(&rules, &line, &sheet, ALL, &mut room);
+        let told = match_line(&rules, &line, &sheet, ALL, 0, &mut room);
         assert_ne!(told, Answer::BadSheet);
     }
 }

@@ -11,6 +11,9 @@ use tholdrimash::{
 /// Stands around what is lent, and in every place of a buffer.
 const FILLER: u16 = 0xA5C3;
 
+/// The same for words of 32 bits. Each half of it differs from what answers hold.
+const WIDE_FILLER: u32 = 0xA5C3_5A3C;
+
 const AROUND: usize = 8;
 
 /// What a call is lent, with filler around it.
@@ -49,7 +52,11 @@ fn buffer(room: usize) -> Lent<u16> {
     Lent::new(&vec![FILLER; room], FILLER)
 }
 
-type Function = fn(&[u16], &[u8], &[u8], u32, &mut [u16]) -> Answer;
+fn answer_buffer(room: usize) -> Lent<u32> {
+    Lent::new(&vec![WIDE_FILLER; room], WIDE_FILLER)
+}
+
+type Function = fn(&[u16], &[u8], &[u8], u32, u32, &mut [u32]) -> Answer;
 
 /// What matching is given.
 #[derive(Clone, Copy)]
@@ -58,29 +65,31 @@ pub struct Call<'a> {
     pub line: &'a [u8],
     pub sheet: &'a [u8],
     pub budget: u32,
+    pub base: u32,
     pub room: usize,
 }
 
 impl Call<'_> {
-    pub fn scan(self) -> (Answer, Vec<u16>) {
+    pub fn scan(self) -> (Answer, Vec<u32>) {
         self.by(match_line)
     }
 
-    pub fn lookup(self) -> (Answer, Vec<u16>) {
+    pub fn lookup(self) -> (Answer, Vec<u32>) {
         self.by(lookup_line)
     }
 
     /// The answer and the words written.
-    fn by(self, function: Function) -> (Answer, Vec<u16>) {
+    fn by(self, function: Function) -> (Answer, Vec<u32>) {
         let mut table = Lent::new(self.table, FILLER);
         let mut line = Lent::new(self.line, 0xA5);
         let mut sheet = Lent::new(self.sheet, 0xA5);
-        let mut answer = buffer(self.room);
+        let mut answer = answer_buffer(self.room);
         let told = function(
             table.given(),
             line.given(),
             sheet.given(),
             self.budget,
+            self.base,
             answer.given(),
         );
         table.unchanged();
@@ -90,7 +99,7 @@ impl Call<'_> {
     }
 
     /// What scan and lookup both give.
-    pub fn both(self) -> (Answer, Vec<u16>) {
+    pub fn both(self) -> (Answer, Vec<u32>) {
         let told = self.scan();
         assert_eq!(told, self.lookup(), "scan and lookup");
         told
@@ -112,14 +121,15 @@ pub struct ProgramCall {
     pub ends: Vec<u32>,
     pub sheets: Vec<u8>,
     pub budgets: Vec<u32>,
+    pub bases: Vec<u32>,
     pub rows: usize,
     pub room: usize,
 }
 
 /// What a program call gives: the answer, the rows and the answer words written.
-pub type ProgramTold = (ProgramAnswer, Vec<u32>, Vec<u16>);
+pub type ProgramTold = (ProgramAnswer, Vec<u32>, Vec<u32>);
 
-type ProgramFunction = fn(&[u16], Program<'_>, &mut [u32], &mut [u16]) -> ProgramAnswer;
+type ProgramFunction = fn(&[u16], Program<'_>, &mut [u32], &mut [u32]) -> ProgramAnswer;
 
 impl ProgramCall {
     pub fn scan(&self) -> ProgramTold {
@@ -136,13 +146,15 @@ impl ProgramCall {
         let mut ends = Lent::new(&self.ends, u32::MAX);
         let mut sheets = Lent::new(&self.sheets, 0xA5);
         let mut budgets = Lent::new(&self.budgets, u32::MAX);
+        let mut bases = Lent::new(&self.bases, u32::MAX);
         let mut rows = Lent::new(&vec![u32::MAX; self.rows], u32::MAX);
-        let mut answers = buffer(self.room);
+        let mut answers = answer_buffer(self.room);
         let program = Program {
             text: text.given(),
             ends: ends.given(),
             sheets: sheets.given(),
             budgets: budgets.given(),
+            bases: bases.given(),
         };
         let told = function(table.given(), program, rows.given(), answers.given());
         table.unchanged();
@@ -150,6 +162,7 @@ impl ProgramCall {
         ends.unchanged();
         sheets.unchanged();
         budgets.unchanged();
+        bases.unchanged();
         let written = told.written();
         let rows = rows.changed(if written.is_ok() { self.rows } else { 0 });
         (told, rows, answers.changed(written.unwrap_or(0)))

@@ -1,6 +1,8 @@
 //! The crate's functions against the linked library: document 01's bench cases, every number, and
-//! tables as text, programs and filled sheets beside models of them, on memory that is watched.
+//! tables as text, programs, filled sheets and moved spans beside models of them, on memory that is
+//! watched.
 
+mod bases;
 mod bench;
 mod expressions;
 mod lent;

@@ -1,18 +1,21 @@
-//! Programs: number 17 in each of its cases, the room that is left, and both calls on random
-//! programs beside a model that is document 02's sentences, with the single call for each line.
+//! Programs: number 17 in each of its cases, the room that is left, a base a line, and both calls on
+//! random programs beside a model that is document 02's sentences, with the single call for each
+//! line.
 
+use crate::bases::{moved, BASES, TOO_GREAT};
 use crate::lent::{Call, ProgramCall, ProgramTold};
 use crate::random::Random;
 use crate::tables::{chain, sheet, table, ALL, MOV, T};
 use std::thread;
 use tholdrimash::{sheet_len, Answer, LineAnswer, LineAnswers, ProgramAnswer, MOST_LINES};
 
-/// A line with its sheet and its budget. A line of more than 120 bytes has no sheet.
+/// A line with its sheet, its budget and its base. A line of more than 120 bytes has no sheet.
 #[derive(Clone)]
-struct Line {
-    bytes: Vec<u8>,
-    sheet: Vec<u8>,
-    budget: u32,
+pub struct Line {
+    pub bytes: Vec<u8>,
+    pub sheet: Vec<u8>,
+    pub budget: u32,
+    pub base: u32,
 }
 
 impl Line {
@@ -25,6 +28,7 @@ impl Line {
             bytes: bytes.to_vec(),
             sheet,
             budget: ALL,
+            base: 0,
         }
     }
 }
@@ -43,6 +47,7 @@ fn program(table: &[u16], lines: &[Line], room: usize) -> ProgramCall {
         ends: vec![],
         sheets: vec![],
         budgets: vec![],
+        bases: vec![],
         rows: 2 * lines.len(),
         room,
     };
@@ -51,11 +56,12 @@ fn program(table: &[u16], lines: &[Line], room: usize) -> ProgramCall {
         call.ends.push(call.text.len() as u32);
         call.sheets.extend(&line.sheet);
         call.budgets.push(line.budget);
+        call.bases.push(line.base);
     }
     call
 }
 
-type Single = fn(Call<'_>) -> (Answer, Vec<u16>);
+type Single = fn(Call<'_>) -> (Answer, Vec<u32>);
 
 const SCAN: Single = |call| call.scan();
 const LOOKUP: Single = |call| call.lookup();
@@ -69,6 +75,7 @@ fn model(call: &ProgramCall, single: Single) -> ProgramTold {
         line: b"",
         sheet: &[255; 2],
         budget: 0,
+        base: 0,
         room: 0,
     };
     // "A bad table refuses the whole call before any line."
@@ -76,13 +83,14 @@ fn model(call: &ProgramCall, single: Single) -> ProgramTold {
         return refused(ProgramAnswer::BadTable);
     }
     // "17 for more than 256 lines, ends that fall or pass the text, or sheets, budgets or rows of
-    // the wrong length; nothing written."
+    // the wrong length; nothing written." And "one base a line (else 17)".
     let starts: Vec<u32> = [0].into_iter().chain(call.ends.iter().copied()).collect();
     let mut spans = starts.iter().zip(&call.ends);
     let lines = call.ends.len();
     if lines > 256
         || !spans.all(|(start, end)| start <= end && *end as usize <= call.text.len())
         || call.budgets.len() != lines
+        || call.bases.len() != lines
         || call.rows != 2 * lines
     {
         return refused(ProgramAnswer::BadProgram);
@@ -103,7 +111,8 @@ fn model(call: &ProgramCall, single: Single) -> ProgramTold {
     }
     let (mut rows, mut answers) = (vec![], vec![]);
     let mut sheets = &call.sheets[..];
-    for (span, budget) in spans.into_iter().zip(&call.budgets) {
+    let limits = call.budgets.iter().zip(&call.bases);
+    for (span, (budget, base)) in spans.into_iter().zip(limits) {
         let (sheet, rest) = sheets.split_at(sheet_of(span));
         sheets = rest;
         // "Each line's numbers and answer words are what the single call would give"; "Number 9 is
@@ -113,6 +122,7 @@ fn model(call: &ProgramCall, single: Single) -> ProgramTold {
             line: &call.text[span[0]..span[1]],
             sheet,
             budget: *budget,
+            base: *base,
             room: call.room - answers.len(),
         });
         // "Its number, and the answer words used before it."
@@ -137,7 +147,7 @@ fn like_the_model(call: &ProgramCall) -> [ProgramTold; 2] {
         let numbers: Vec<u32> = lines.clone().map(LineAnswer::number).collect();
         let told: Vec<u32> = rows.iter().copied().step_by(2).collect();
         assert_eq!(numbers, told);
-        let words: Vec<u16> = lines
+        let words: Vec<u32> = lines
             .flat_map(|line| line.written().unwrap_or(&[]))
             .copied()
             .collect();
@@ -147,7 +157,7 @@ fn like_the_model(call: &ProgramCall) -> [ProgramTold; 2] {
 }
 
 /// Scan and lookup both give these rows and words.
-fn gives(call: &ProgramCall, rows: &[u32], answers: &[u16]) {
+fn gives(call: &ProgramCall, rows: &[u32], answers: &[u32]) {
     let [told, _] = like_the_model(call);
     let words = answers.len();
     let expected = (ProgramAnswer::Read { words }, rows.to_vec(), answers.into());
@@ -161,9 +171,9 @@ fn refused(call: &ProgramCall) {
 }
 
 /// T's readings of `mov p`, `mov q` and `mov 7`.
-const P: [u16; 11] = [1, 4, 0, 1, 1, 1, 4, 5, 1, 0, 0];
-const Q: [u16; 11] = [1, 4, 0, 1, 1, 1, 4, 5, 1, 1, 0];
-const SEVEN: [u16; 8] = [1, 3, 0, 0, 1, 0, 4, 5];
+const P: [u32; 11] = [1, 4, 0, 1, 1, 1, 4, 5, 1, 0, 0];
+const Q: [u32; 11] = [1, 4, 0, 1, 1, 1, 4, 5, 1, 1, 0];
+const SEVEN: [u32; 8] = [1, 3, 0, 0, 1, 0, 4, 5];
 
 #[test]
 fn one_line_is_the_single_call() {
@@ -247,6 +257,7 @@ fn each_number_of_a_line() {
         budget,
         ..mov(b'p')
     };
+    let based = |base| Line { base, ..mov(b'p') };
     let mut bad_sheet = mov(b'p');
     bad_sheet.sheet[3 * 6 + 5] = 6;
     let lines = [
@@ -257,12 +268,15 @@ fn each_number_of_a_line() {
         spoilt(0),
         spoilt(ALL + 1),
         spoilt(14),
+        based(TOO_GREAT[0]),
+        based(u32::MAX),
         spoilt(15),
         mov(b'p'),
+        based(u32::MAX),
     ];
     let call = program(&T, &lines, 11);
     let numbers: Vec<u32> = call.both().1.into_iter().step_by(2).collect();
-    assert_eq!(numbers, [1, 3, 3, 4, 5, 5, 6, 0, 9]);
+    assert_eq!(numbers, [1, 3, 3, 4, 5, 5, 6, 19, 19, 0, 9, 19]);
     let _ = like_the_model(&call);
 
     // Some lines go too deep, or fill the pool, and the others do as ever.
@@ -274,6 +288,44 @@ fn each_number_of_a_line() {
     let full = program(&many, &[empty, a], 64);
     assert_eq!(full.lookup().1[..2], [8, 0]);
     let _ = like_the_model(&full);
+}
+
+/// Each line's spans are moved by its own base, whichever the others' are.
+#[test]
+fn a_base_a_line() {
+    for base in BASES {
+        let mut lines = [mov(b'p'), mov(b'7'), mov(b'q')];
+        lines[1].base = base;
+        lines[2].base = 12;
+        let answers = [&P[..], &moved(&SEVEN, base), &moved(&Q, 12)].concat();
+        gives(&program(&T, &lines, 64), &[0, 0, 0, 11, 0, 19], &answers);
+    }
+    // The same line from the file's start to the greatest base.
+    let lines = BASES.map(|base| Line { base, ..mov(b'p') });
+    let rows: Vec<u32> = (0..BASES.len() as u32).flat_map(|i| [0, 11 * i]).collect();
+    let answers = BASES.map(|base| moved(&P, base)).concat();
+    gives(&program(&T, &lines, answers.len()), &rows, &answers);
+}
+
+/// A line whose base is too great takes no words, and those after it are read.
+#[test]
+fn number_19_is_a_line_s_own() {
+    for base in TOO_GREAT {
+        let mut lines = [mov(b'p'), mov(b'7'), mov(b'q')];
+        lines[1].base = base;
+        gives(
+            &program(&T, &lines, 22),
+            &[0, 0, 19, 11, 0, 11],
+            &[P, Q].concat(),
+        );
+        lines[0].base = base;
+        gives(&program(&T, &lines, 22), &[19, 0, 19, 0, 0, 0], &Q);
+        lines[2].base = base;
+        gives(&program(&T, &lines, 22), &[19, 0, 19, 0, 19, 0], &[]);
+        // Its budget is judged before, its room after it.
+        lines[1].budget = 0;
+        gives(&program(&T, &lines, 0), &[19, 0, 5, 0, 19, 0], &[]);
+    }
 }
 
 #[test]
@@ -288,6 +340,7 @@ fn two_hundred_and_fifty_six_lines() {
     let mut call = program(&T, &[], 0);
     call.ends = vec![0; 70_000];
     call.budgets = vec![ALL; 70_000];
+    call.bases = vec![0; 70_000];
     call.rows = 140_000;
     call.sheets = vec![255; 140_000];
     refused(&call);
@@ -301,6 +354,7 @@ fn deepest_line_in_a_small_stack() {
             bytes: vec![],
             sheet: vec![0; 2],
             budget: ALL,
+            base: 0,
         };
         let lines = [line.clone(), line];
         program(&chain(b"???????", b'?'), &lines, 2 * 461).both()
@@ -346,6 +400,10 @@ fn bad_shapes_are_17() {
     spoil(&|call| call.budgets.truncate(2));
     spoil(&|call| call.budgets.push(ALL));
     spoil(&|call| call.budgets.clear());
+    spoil(&|call| call.bases.truncate(2));
+    spoil(&|call| call.bases.push(0));
+    spoil(&|call| call.bases.push(u32::MAX));
+    spoil(&|call| call.bases.clear());
     spoil(&|call| call.rows = 5);
     spoil(&|call| call.rows = 7);
     spoil(&|call| call.rows = 3);
@@ -356,7 +414,10 @@ fn bad_shapes_are_17() {
     long.sheets = vec![255; 2 * 122 * 122];
     refused(&long);
     let said = ProgramAnswer::BadProgram.to_string();
-    assert_eq!(said, "the program's lines, sheets, budgets or rows are bad");
+    assert_eq!(
+        said,
+        "the program's lines, sheets, budgets, bases or rows are bad"
+    );
 }
 
 #[test]
@@ -370,6 +431,7 @@ fn a_bad_table_is_told_before_17() {
         call.ends = vec![9];
         call.sheets.clear();
         call.budgets = vec![ALL; 300];
+        call.bases = vec![u32::MAX; 2];
         call.refused(2, ProgramAnswer::BadTable);
     }
     // Also where there is no line.
@@ -389,7 +451,7 @@ fn rows_that_no_call_wrote() {
     assert_eq!(told[1].readings(), None);
     assert_eq!(told[1].written(), Err(LineAnswer::NoMatch));
 
-    let is_read = |rows: &[u32], words: &[u16]| LineAnswers::read(rows, words).is_some();
+    let is_read = |rows: &[u32], words: &[u32]| LineAnswers::read(rows, words).is_some();
     assert!(is_read(&[], &[]));
     assert!(!is_read(&[], &words));
     assert!(!is_read(&rows, &words[..10]));
@@ -402,12 +464,14 @@ fn rows_that_no_call_wrote() {
         [0, 0, 1, 11, 0, 10], // fewer than before
         [0, 0, 2, 11, 0, 11], // a number that no line has
         [0, 0, 10, 11, 0, 11],
+        [0, 0, 18, 11, 0, 11],
+        [0, 0, 20, 11, 0, 11],
         [0, 0, 1, u32::MAX, 0, 11],
     ] {
         assert!(!is_read(&bad, &words), "{bad:?}");
     }
     assert!(!is_read(&rows[..5], &words));
-    for number in [1, 3, 4, 5, 6, 7, 8, 9] {
+    for number in [1, 3, 4, 5, 6, 7, 8, 9, 19] {
         let row = [number, 0];
         let line = LineAnswers::read(&row, &[]).unwrap().next().unwrap();
         assert_eq!(line.number(), number);
@@ -449,7 +513,7 @@ const RULES: &[&[u8]] = &[
 ];
 
 impl Random {
-    fn table(&mut self) -> Vec<u16> {
+    pub fn table(&mut self) -> Vec<u16> {
         table(self.pick(RULES))
     }
 
@@ -472,7 +536,16 @@ impl Random {
         sheet
     }
 
-    fn line(&mut self) -> Line {
+    /// Mostly one that a file may have, sometimes a limit, or too great a one.
+    fn base(&mut self) -> u32 {
+        match self.below(20) {
+            0 => self.pick(&TOO_GREAT),
+            1..=3 => self.pick(&BASES),
+            _ => self.below(1 << 20) as u32,
+        }
+    }
+
+    pub fn line(&mut self) -> Line {
         let n = match self.below(60) {
             0 => self.pick(&[119, 120, 121, 122, 130]),
             _ => self.below(7),
@@ -497,6 +570,7 @@ impl Random {
             bytes,
             sheet,
             budget,
+            base: self.base(),
         }
     }
 
@@ -507,7 +581,7 @@ impl Random {
     /// Something changed that may make it a bad program.
     fn spoil(&mut self, call: &mut ProgramCall) {
         let longer = self.one_in(2);
-        match self.below(8) {
+        match self.below(9) {
             0 if !call.ends.is_empty() => {
                 let at = self.below(call.ends.len());
                 let length = call.text.len() as u32;
@@ -534,6 +608,8 @@ impl Random {
             5 => call.rows = call.rows.saturating_sub(1),
             6 if longer => call.rows += 2,
             6 => drop(call.ends.pop()),
+            7 if longer => call.bases.push(0),
+            7 => drop(call.bases.pop()),
             _ if self.one_in(2) => drop(call.table.pop()),
             _ => call.table[0] = self.pick(&[0, 33, 1, 2]),
         }
@@ -543,7 +619,7 @@ impl Random {
 #[test]
 fn random_programs_like_the_model() {
     let mut random = Random(0xBB67_AE85_84CA_A73B);
-    let (mut read, mut refused, mut numbers) = (0, 0, [0; 10]);
+    let (mut read, mut refused, mut numbers) = (0, 0, [0; 20]);
     for number in 0..24_000 {
         let table = random.table();
         let most = match number % 2_000 {
@@ -577,6 +653,6 @@ fn random_programs_like_the_model() {
         }
     }
     assert!(read > 30_000 && refused > 8_000, "{read}, {refused}");
-    let seen = [0, 1, 3, 4, 5, 6, 7, 9].map(|number| numbers[number]);
+    let seen = [0, 1, 3, 4, 5, 6, 7, 9, 19].map(|number| numbers[number]);
     assert!(seen.iter().all(|times| *times > 500), "{numbers:?}");
 }

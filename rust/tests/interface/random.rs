@@ -253,6 +253,7 @@ fn round_trips() {
             line: &line,
             sheet: &sheet(line.len(), &[(0, line.len(), line.len() as u8)]),
             budget: 10_000,
+            base: 0,
             room: 1024,
         };
         let packed = Call {

@@ -6,7 +6,7 @@ use std::thread;
 use tholdrimash::{Argument, Kind, Readings, Tree};
 
 /// One reading of a rule that nests `depth` deep.
-fn nested(depth: usize) -> Vec<u16> {
+fn nested(depth: usize) -> Vec<u32> {
     let mut words = vec![1, 0];
     for _ in 0..depth {
         words.extend([0, 0, 1, 1, 0, 0]);
@@ -55,6 +55,7 @@ fn deepest_match_is_read() {
             line: b"",
             sheet: &[0; 2],
             budget: ALL,
+            base: 0,
             room: 461,
         };
         call.both()
@@ -98,10 +99,10 @@ fn any_words_are_read_or_refused() {
     let mut seed = 1_u32;
     let mut whole = 0;
     for _ in 0..20_000 {
-        let words: Vec<u16> = (0..12)
+        let words: Vec<u32> = (0..12)
             .map(|_| {
                 seed = seed.wrapping_mul(1_664_525).wrapping_add(1_013_904_223);
-                (seed >> 24) as u16 % 3
+                (seed >> 24) % 3
             })
             .collect();
         whole += (0..=12)
@@ -109,5 +110,5 @@ fn any_words_are_read_or_refused() {
             .count();
     }
     assert!(whole > 10_000, "{whole} were whole");
-    assert_eq!(Readings::read(&[u16::MAX; 9]), None);
+    assert_eq!(Readings::read(&[u32::MAX; 9]), None);
 }

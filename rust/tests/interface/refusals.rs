@@ -1,15 +1,16 @@
-//! Matching's numbers 1 to 9, each reached by scan and by lookup.
+//! Matching's numbers 1 to 9 and 19, each reached by scan and by lookup.
 
 use crate::lent::Call;
 use crate::tables::{chain, sheet, table, ALL, MOV};
-use tholdrimash::{Answer, Readings};
+use tholdrimash::{Answer, Readings, GREATEST_BASE};
 
 /// The rule `a` on `a`: a good call, to be spoilt.
-const GOOD: Call = Call {
+pub const GOOD: Call = Call {
     table: &[1, 1, 1, 0, 0, 0, 1, 97],
     line: b"a",
     sheet: &[255; 8],
     budget: ALL,
+    base: 0,
     room: 5,
 };
 
@@ -79,12 +80,26 @@ fn bad_budget_is_5() {
 }
 
 #[test]
-fn checks_run_2_3_4_5() {
+fn bad_base_is_19() {
+    for base in [GREATEST_BASE + 1, u32::MAX] {
+        Call { base, ..GOOD }.refused(19, Answer::BadBase);
+        Call { base, ..MOV }.refused(19, Answer::BadBase);
+    }
+    let base = GREATEST_BASE;
+    assert_eq!(Call { base, ..GOOD }.both(), GOOD.both());
+    assert_eq!(Answer::BadBase.visits(), 0);
+    let said = Answer::BadBase.to_string();
+    assert_eq!(said, "the base is above 4,294,967,175");
+}
+
+#[test]
+fn checks_run_2_3_4_5_19() {
     let mut call = Call {
         table: &[],
         line: b";",
         sheet: &[],
         budget: 0,
+        base: u32::MAX,
         room: 0,
     };
     call.refused(2, Answer::BadTable);
@@ -94,6 +109,43 @@ fn checks_run_2_3_4_5() {
     call.refused(4, Answer::BadSheet);
     call.sheet = GOOD.sheet;
     call.refused(5, Answer::BadBudget);
+    call.budget = GOOD.budget;
+    call.refused(19, Answer::BadBase);
+}
+
+/// A bad base is told before all that the walk may meet, and before the room.
+#[test]
+fn number_19_comes_before_the_walk() {
+    let base = GREATEST_BASE + 1;
+    let deep = &chain(b"", 128 + 17);
+    let full = &table(b"\x81\x81\x81\x81\x81\x81\x81;|;;;");
+    let empty = Call {
+        line: b"",
+        sheet: &[255; 2],
+        ..GOOD
+    };
+    for (number, call) in [
+        (1, Call { line: b"b", ..GOOD }),
+        (6, Call { budget: 1, ..GOOD }),
+        (
+            7,
+            Call {
+                table: deep,
+                ..GOOD
+            },
+        ),
+        (
+            8,
+            Call {
+                table: full,
+                ..empty
+            },
+        ),
+        (9, Call { room: 4, ..GOOD }),
+    ] {
+        assert_eq!(call.scan().0.number(), number);
+        Call { base, ..call }.refused(19, Answer::BadBase);
+    }
 }
 
 #[test]

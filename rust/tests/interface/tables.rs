@@ -21,6 +21,7 @@ pub const MOV: Call = Call {
         sheet
     },
     budget: ALL,
+    base: 0,
     room: 12,
 };
 
