@@ -95,7 +95,7 @@ static void gives(const char *name, matching *run, call c, tholdrimash_answer ex
 /* The greatest base, bases from both sides of where 16 bits, a sign and 32 bits end, and two that are too great. */
 #define GREATEST 4294967175U
 
-static const uint32_t some_bases[] = {0, 1, 7, 65535, 65536, INT32_MAX, 1U << 31, GREATEST};
+static const uint32_t some_bases[] = {0, 1, 7, 65532, 65535, 65536, INT32_MAX, 1U << 31, GREATEST};
 static const uint32_t too_great[] = {GREATEST + 1, UINT32_MAX};
 
 /* Moves every start and end of the tree that begins here by the base, and says where the tree ends. */
@@ -977,6 +977,15 @@ static void lines_of_a_program(void) {
     p.room = 18;
     both_run("a program, short in the middle", &p, short_of_two, words, 11);
     p.room = 30;
+    /* In a file, each line ended by one byte: the same rows, and each place moved by its line's base. */
+    static const uint32_t bases[] = {0, 6, 12, 13, 18};
+    uint32_t moved[LEN(words)];
+    memcpy(p.bases, bases, sizeof bases);
+    move(moved, words, 11, 0);
+    move(moved + 11, words + 11, 8, 6);
+    move(moved + 19, words + 19, 11, 18);
+    both_run("a program, lines of a file", &p, all, moved, 30);
+    memset(p.bases, 0, sizeof bases);
     memcpy(p.text + p.text_len, " ;no line", 9);
     p.text_len += 9;
     both_run("text after the last end", &p, all, words, 30);

@@ -21,7 +21,7 @@ use Rattle.places.specs.Places.{PlacedAt}
 use Rattle.ruledef_map.specs.RuledefMap.{rulePrefix, topRules, withPrefix, sameBytes}
 use Rattle.sorting.specs.Ascending.{ascending, inOrder}
 use Rattle.ruledef_map.proofs.Orders.{same-eq}
-use Rattle.readings.proofs.Records.{top-below, few-records, top-many}
+use Rattle.readings.proofs.Records.{kept-map, top-below, few-records, top-many}
 use Rattle.sorting.proofs.Insertions.{every-none, every-cons, every-head, every-tail, ascending-length, ascending-ordered, kept-ascending, order-none, order-cons, order-head, order-tail, every-kept}
 use Rattle.sorting.proofs.Members.{member-at}
 use Rattle.prefix_order.specs.PrefixOrder.{keyOf, entryOf, entries, rulesWith, LayAsked, OrderAsked}
@@ -90,21 +90,6 @@ module _ {t places rules order spare : List ℕ} {n : ℕ} (asked : OrderAsked t
 -- ---- the entries of a key
 
 module _ {A B : Type 0} where
-  -- what a test keeps of members that were mapped
-  kept-image :
-      (g : B → Bool) (h : A → Bool) (to : A → B) (xs : List A) → ((x : A) → List·Memᴰ x xs → g (to x) ≡ h x) →
-      keepIf g (map to xs) ≡ map to (keepIf h xs)
-  unfolding keepIf
-  kept-image g h to [] e = refl
-  kept-image g h to (x ∷ xs) e =
-      rw (e x (List·Memᴰ·head refl)) (go (h x) (kept-image g h to xs (λ y m. e y (List·Memᴰ·tail m))))
-    where
-      go :
-          (c : Bool) → keepIf g (map to xs) ≡ map to (keepIf h xs) →
-          select c (to x ∷ keepIf g (map to xs)) (keepIf g (map to xs)) ≡ map to (select c (x ∷ keepIf h xs) (keepIf h xs))
-      go true ih = ap (λ (l : List B). to x ∷ l) ih
-      go false ih = ih
-
   -- images that are the same of every member
   map-on : (f g : A → B) (xs : List A) → ((x : A) → List·Memᴰ x xs → f x ≡ g x) → map f xs ≡ map g xs
   map-on f g [] e = refl
@@ -200,7 +185,7 @@ module _ (t : List ℕ) (ok : tableFits t ≡ true) where
     entries-with =
         ap (map (λ e. e % 512))
         (kept-ascending (λ e. eqb (e / 512) (keyOf q)) (map (entryOf t) (topRules t))
-        ∙ ap ascending (kept-image (λ e. eqb (e / 512) (keyOf q)) (λ i. sameBytes (rulePrefix (ruleParts t i)) q) (entryOf t) (topRules t) tells)
+        ∙ ap ascending (kept-map (λ e. eqb (e / 512) (keyOf q)) (λ i. sameBytes (rulePrefix (ruleParts t i)) q) (entryOf t) (topRules t) tells)
         ∙ ascending-ordered (map (entryOf t) those) (ap inOrder (map-on (entryOf t) (λ i. keyOf q * 512 + i) those those-entry) ∙ moved-order (keyOf q * 512) those those-ordered))
         ∙ map-map (λ e. e % 512) (entryOf t) those
         ∙ map-same (λ i. entryOf t i % 512) those (λ i m. entry-place i (small-top (those-top m)))
