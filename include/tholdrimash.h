@@ -106,7 +106,7 @@ typedef struct {
  * budget  1 to 1,000,000 visits. It bounds the time of a call, and changes no answer but to 6: take 1,000,000 if unsure.
  * base    where the line begins in its file, or in whatever the caller counts places by: 0 to 4,294,967,175, so that the
  *         end of a line of 120 bytes is still a 32-bit number. 0 gives offsets within the line. A base moves every start and
- *         end in the answer; visits, words and all numbers but 19 are the same at each.
+ *         end in the answer; visits, how many words and all numbers but 19 are the same at each.
  * answer  32-bit words: number of matches, greatest exact count, then each tree: ruleset, rule, argument count; per argument
  *         0 (expression) or 1 (nested), start, end, and the inner tree if nested. Start and end are the base plus the offset
  *         within the line.

@@ -75,7 +75,7 @@ module _ (t store : List ℕ) (used : ℕ) where
           let each : ((u : Tree) → List·Memᴰ u (treesTo store used i) → length (treeWords u) ≤ 12288) = λ u m. bounded .words u (subst (List·Memᴰ u) (sym e) (Memᴰ·append-left rest m)) in
           omega (arith, ap (λ (x : Measure). x .words) is, few-words is-best 12288 (treesTo store used i) each, few-trees)
 
-  -- the answer's first two words have 16 bits
+  -- the answer's first two words are small
   pub head-fits : Stored store used → Bounded t store used → {m : Measure} → m ≡ measured t (treesIn store used) → (m .matches < 65536) × (m .greatest < 65536)
   unfolding measured
   head-fits stored bounded is = (

@@ -49,7 +49,7 @@ module _ (t line sheet : List ℕ) (good : faultAt line ≡ none) (is : sheet �
       → tableFits t ≡ true → budgetFits budget ≡ true → baseFits base ≡ true → Within t line sheet budget → Demand3 (based base (lineScene t line)) b told
   reads-alone budget base b told promise table-good budget-good base-good within =
       subst (λ (s : Scene). Demand3 (based base s) b told) (ap (sceneOf t line) is ∙ same-scene t line (good-is line .0 good .short))
-      (promise (record { table = table-good; bytes = good; extents = fits; visits = budget-good; starts = base-good }) within)
+      (promise (record { table = table-good; bytes = good; extents = fits; visits = budget-good; origin = base-good }) within)
 
 -- the calls: filling, then matching on the line and the sheet that it left
 module _ (κs a : _) (n : ℕ) (x : _) (fill : fill-sheet.Post κs a (Filled n) x) where

@@ -1,5 +1,6 @@
 // What is lent for a program's lines, judged before any line is read: how many lines there are, where they end in the text,
-// and whether sheets, budgets, bases and rows have the right lengths. Number 17 is for what does not fit. The Rust has no such call.
+// and whether sheets, budgets, bases and rows have the right lengths. Number 17 is for what does not fit. The Rust has no such
+// call.
 ghost use mathlib.Core.Path.{_≡_};
 ghost use Prim.Native.Nat.{_≤_};
 ghost use lib.ListN.{length};

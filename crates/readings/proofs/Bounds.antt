@@ -41,7 +41,7 @@ use Rattle.readings.proofs.Best.{reached}
 use Rattle.readings.proofs.Spans.{exact-within, candidate-within, under-within, from-within, few-exact}
 use Rattle.readings.proofs.Sizes.{some-length, tries-paid, tries-stored, tries-shallow}
 use Rattle.readings.proofs.Calls.{bad-table, bad-line, bad-sheet, bad-budget, bad-base, stopped, walked-through, fits, short}
-use Rattle.readings.proofs.Numbers.{Case, table, bytes, extents, visits, starts, walk, none-found, too-long, found, exactly}
+use Rattle.readings.proofs.Numbers.{Case, table, bytes, extents, visits, origin, walk, none-found, too-long, found, exactly}
 
 -- ---- how many words
 
@@ -241,7 +241,7 @@ module _ (t line sheet : List ℕ) (budget base : ℕ) (ok : Accepted t line she
 
   pub small : Small (based base (sceneOf t line sheet))
   unfolding sceneOf based baseFits
-  small = record { short = good-is line .0 (ok .bytes) .short; early = leb-true base 4294967175 (ok .starts); numbers = rules-few }
+  small = record { short = good-is line .0 (ok .bytes) .short; early = leb-true base 4294967175 (ok .origin); numbers = rules-few }
 
 -- ---- depth never cuts a reading off in silence
 
@@ -276,7 +276,7 @@ module _ (order : Scene → List (ℕ × ℕ)) (enough : (s : Scene) → Lawful 
       go (bytes p e f) = none-needed (bad-line order t line sheet budget base b p e f) refl
       go (extents e f g) = none-needed (bad-sheet order t line sheet budget base b e f g) refl
       go (visits e f g h) = none-needed (bad-budget order t line sheet budget base b e f g h) refl
-      go (starts e f g h i) = none-needed (bad-base order t line sheet budget base b e f g h i) refl
+      go (origin e f g h i) = none-needed (bad-base order t line sheet budget base b e f g h i) refl
       go (walk {n = n} left a e) = none-needed (stopped order t line sheet budget base b a n left e) refl
       go (none-found left used a e) = none-needed (walked-through order t line sheet budget base b a left used [] e) refl
       go (too-long left used m ms a e h) =

@@ -57,7 +57,7 @@ module _ (order : Scene → List (ℕ × ℕ)) (t line sheet : List ℕ) (budget
 
   pub accepted : Accepted t line sheet budget base → answer ≡ ended s budget b outcome
   unfolding callWith
-  accepted a = rw (callWith, a .table, a .bytes, a .extents, a .visits, a .starts)
+  accepted a = rw (callWith, a .table, a .bytes, a .extents, a .visits, a .origin)
 
   -- a walk that is refused, with its visits; on 6 they are the budget
   pub stopped : Accepted t line sheet budget base → (n left : ℕ) → outcome ≡ stop n left → answer ≡ stoppedAfter n (budget - left) b

@@ -16,10 +16,11 @@ use Rattle.defs.specs.declared.ruledef.Part.{Part}
 use Rattle.defs.specs.declared.ruledef.Part.the-variants.{Exact, Whitespace, Expression, Nested}
 use Rattle.readings.specs.Tree.{Tree, node, Args, end, expr, nest, sameTree, sameArgs, moved, movedArgs}
 use Rattle.readings.specs.Scene.{Scene, sceneOf, based}
-use Rattle.readings.specs.Plan.{Plan, give, visit, keep, deep, run, _then_, each, when, after, mapped}
+use Rattle.readings.specs.Plan.{Plan, give, visit, keep, run, _then_, each, when, after, mapped}
 use Rattle.readings.specs.Walk.{Found, Match, Below, exactly, isGap, lookahead, cutBy, cutFor, listOf, freeUnder, candidates, unless, anySame, fresh, firsts, sameEnd, ends, limits, sameMatch, start, addExpr, addNest, named, walk, rulesetWalk, under, depths, trial, tries}
 use Rattle.readings.specs.Answer.{exactParts, exactCount, nestedCount, greatest, greatestCount, best, argCount, treeWords, argWords, allWords, wordsOf, answerWords}
 use Rattle.readings.specs.Call.{tree}
+use Rattle.readings.proofs.Trees.{same-tree, tree-same}
 use Rattle.readings.proofs.Runs.{mappedEnd, run-mapped}
 use Rattle.readings.proofs.Records.{kept-map}
 use Rattle.readings.proofs.Mapped.{mapped-then, then-mapped, mapped-each, mapped-when, mapped-after, mapped-mapped, each-map, each-same}
@@ -48,6 +49,10 @@ module _ (d : ℕ) where
     same-moved-args (nest x y t a) end = refl
     same-moved-args (nest x y t a) (expr z w b) = refl
     same-moved-args (nest x y t a) (nest z w u b) = rw (eqb-moved x z, eqb-moved y w, same-moved t u, same-moved-args a b) refl
+
+-- so trees that are one when moved are one
+pub moved-one : (d : ℕ) (t u : Tree) → moved d t ≡ moved d u → t ≡ u
+moved-one d t u e = same-tree t u (sym (same-moved d t u) ∙ ap (λ (v : Tree). sameTree (moved d t) v) (sym e) ∙ tree-same (moved d t))
 
 -- ---- of those that are the same the first stays, before and after
 

@@ -50,7 +50,7 @@ module _ (order : Scene → List (ℕ × ℕ)) (t line sheet : List ℕ) (budget
     bytes : (p : ℕ) → tableFits t ≡ true → faultAt line ≡ some p → Case 3
     extents : tableFits t ≡ true → faultAt line ≡ none → sheetFits sheet (length line) ≡ false → Case 4
     visits : tableFits t ≡ true → faultAt line ≡ none → sheetFits sheet (length line) ≡ true → budgetFits budget ≡ false → Case 5
-    starts : tableFits t ≡ true → faultAt line ≡ none → sheetFits sheet (length line) ≡ true → budgetFits budget ≡ true → baseFits base ≡ false → Case 19
+    origin : tableFits t ≡ true → faultAt line ≡ none → sheetFits sheet (length line) ≡ true → budgetFits budget ≡ true → baseFits base ≡ false → Case 19
     -- 6, 7 or 8, whichever the walk meets first
     walk : {n : ℕ} (left : ℕ) → Accepted t line sheet budget base → outcome ≡ stop n left → Case n
     none-found : (left used : ℕ) → Accepted t line sheet budget base → outcome ≡ done left used [] → Case 1
@@ -65,7 +65,7 @@ module _ (order : Scene → List (ℕ × ℕ)) (t line sheet : List ℕ) (budget
   numbered (bytes p e f) = ap (λ (r : Told). r .number) (bad-line order t line sheet budget base b p e f)
   numbered (extents e f g) = ap (λ (r : Told). r .number) (bad-sheet order t line sheet budget base b e f g)
   numbered (visits e f g h) = ap (λ (r : Told). r .number) (bad-budget order t line sheet budget base b e f g h)
-  numbered (starts e f g h i) = ap (λ (r : Told). r .number) (bad-base order t line sheet budget base b e f g h i)
+  numbered (origin e f g h i) = ap (λ (r : Told). r .number) (bad-base order t line sheet budget base b e f g h i)
   numbered (walk {n = n} left a e) = ap (λ (r : Told). r .number) (stopped order t line sheet budget base b a n left e)
   numbered (none-found left used a e) = ap (λ (r : Told). r .number) (walked-through order t line sheet budget base b a left used [] e)
   numbered (too-long left used m ms a e h) =
@@ -92,8 +92,8 @@ module _ (order : Scene → List (ℕ × ℕ)) (t line sheet : List ℕ) (budget
       by-base : tableFits t ≡ true → faultAt line ≡ none → sheetFits sheet (length line) ≡ true → budgetFits budget ≡ true → (n : ℕ) × Case n
       by-base e f g h =
           ⊎-elim
-          (λ i. walk-case (record { table = e; bytes = f; extents = g; visits = h; starts = i }) outcome refl)
-          (λ i. (19, starts e f g h i))
+          (λ i. walk-case (record { table = e; bytes = f; extents = g; visits = h; origin = i }) outcome refl)
+          (λ i. (19, origin e f g h i))
           (tested (baseFits base))
 
       by-budget : tableFits t ≡ true → faultAt line ≡ none → sheetFits sheet (length line) ≡ true → (n : ℕ) × Case n

@@ -1,15 +1,14 @@
 -- What the base is to readings and to calls: a tree is a reading under one base exactly if, moved by the difference, it is one
 -- under the other; and a call tells the same number, visits, words and place under every base that is not refused, with every
 -- start and end moved by the difference.
-use mathlib.Core.Path.{_≡_, refl, sym, ap, ap₂, subst, _∙_}
-use mathlib.Core.Logic.{inl, inr, ⊎-elim}
-use mathlib.Core.Bool.{Bool, true, false}
+use mathlib.Core.Path.{_≡_, refl, sym, ap, subst, _∙_}
+use mathlib.Core.Logic.{inl, inr, ⊎-elim, _↔_}
+use mathlib.Core.Bool.{true, false}
 use mathlib.Core.Option.{Option, none, some}
 use mathlib.Core.List.{List, [], _∷_, map}
 use Prim.Native.Nat.{ℕ, _+_, _-_, _≤_, min}
 use native.Mathlib.Decide.{decLe}
 use native.Mathlib.Omega.{arith}
-use lib.Dec.{leb}
 use lib.ListN.{length}
 use borrow.Author.Tests.{leb-true, le-leb}
 use Rattle.plain.specs.Buffers.{atStart}
@@ -27,10 +26,10 @@ use Rattle.readings.specs.Plan.{Outcome, done, stop, run}
 use Rattle.readings.specs.Walk.{Match, topPairs, tries}
 use Rattle.readings.specs.Lookup.{foundPairs}
 use Rattle.readings.specs.Answer.{greatestCount, best, wordsOf, answerWords}
-use Rattle.readings.specs.Call.{Accepted, tree, written, matched, ended, budgetFits, baseFits, callWith, scanCall, lookupCall}
+use Rattle.readings.specs.Call.{tree, written, matched, ended, budgetFits, baseFits, callWith, scanCall, lookupCall}
 use Rattle.readings.specs.Shift.{answered, refused, Shifted}
 use Rattle.readings.proofs.Runs.{mappedEnd}
-use Rattle.readings.proofs.Moved.{movedMatch, run-moved, trees-moved, words-moved, many-moved, words-by}
+use Rattle.readings.proofs.Moved.{moved-one, movedMatch, run-moved, trees-moved, words-moved, many-moved, words-by}
 use Rattle.readings.proofs.Calls.{bad-table, bad-line, bad-sheet, bad-budget, accepted, fits, short}
 use Rattle.readings.proofs.Numbers.{stop-numbers}
 
@@ -102,13 +101,18 @@ module _ (s : Scene) (d b : ℕ) where
       let (y, x, n) = from-back w in
       (nest f g (node r k y) a, nested (under-same s (d + b) b p) m x o v, cc)
 
-  pub reading-moved : {t : Tree} → Reading here t → Reading there (moved d t)
+  from-here : {t : Tree} → Reading here t → Reading there (moved d t)
   unfolding based
-  reading-moved (reading i j w) = reading i j (from-moved w)
+  from-here (reading i j w) = reading i j (from-moved w)
 
-  pub reading-back : {t : Tree} → Reading there t → (u : Tree) × Reading here u × (moved d u ≡ t)
+  -- every reading there is one of here, moved
+  pub reading-there : {t : Tree} → Reading there t → (u : Tree) × Reading here u × (moved d u ≡ t)
   unfolding based
-  reading-back (reading {r} {k} i j w) = let (a, v, e) = from-back w in (node r k a, reading i j v, ap (node r k) e)
+  reading-there (reading {r} {k} i j w) = let (a, v, e) = from-back w in (node r k a, reading i j v, ap (node r k) e)
+
+  -- a tree is a reading here exactly if, moved, it is one there
+  pub reading-moved : (t : Tree) → Reading here t ↔ Reading there (moved d t)
+  reading-moved t = (from-here, λ r. let (u, q, e) = reading-there r in subst (Reading here) (moved-one d u t e) q)
 
 -- ---- calls
 
@@ -157,87 +161,94 @@ module _ (s : Scene) (d c : ℕ) (b : List ℕ) where
       subst (λ (ts : List Tree). Shifted d b (matched (based c s) (budget - left) (map tree ms) b) (matched (based (d + c) s) (budget - left) ts b))
       (sym (trees-moved d ms)) (matched-moved (budget - left) (map tree ms))
 
-module _ (order : Scene → List (ℕ × ℕ)) (t line sheet : List ℕ) (budget d base : ℕ) (b : List ℕ)
-    (alike : order (based (d + base) (sceneOf t line sheet)) ≡ order (based base (sceneOf t line sheet)))
-    (low : baseFits base ≡ true) (high : baseFits (d + base) ≡ true) where
+-- rules that are tried whatever the base, as the scan's and lookup's are
+abbrev pub BaseFree : (Scene → List (ℕ × ℕ)) → Type 1
+BaseFree order = (s : Scene) (b c : ℕ) → order (based b s) ≡ order (based c s)
+
+pub tops-free : BaseFree topPairs
+unfolding topPairs based
+tops-free s b c = refl
+
+pub found-free : BaseFree (λ s. foundPairs s (linePrefix (s .line)))
+unfolding topPairs based
+found-free s b c = refl
+
+module _ (order : Scene → List (ℕ × ℕ)) (free : BaseFree order) (t line sheet : List ℕ) (budget : ℕ) (b : List ℕ) where
   abbrev s : Scene
   s = sceneOf t line sheet
 
-  abbrev Shifts : Told → Told → Type 0
-  Shifts = Shifted d b
+  -- what the call tells under a base
+  abbrev call : ℕ → Told
+  call base = callWith order t line sheet budget base b
 
-  -- the call under a base that is d greater, neither being refused
-  call-moved : Shifts (callWith order t line sheet budget base b) (callWith order t line sheet budget (d + base) b)
-  call-moved =
-      ⊎-elim
-      (λ e. by-line e (faultAt line) refl)
-      (λ e. shifted-as (bad-table order t line sheet budget base b e) (bad-table order t line sheet budget (d + base) b e) (refused-alike d 2 0 b (λ z. omega (arith, z))))
-      (tested (tableFits t))
-    where
-      walked : tableFits t ≡ true → faultAt line ≡ none → sheetFits sheet (length line) ≡ true → budgetFits budget ≡ true
-          → Shifts (callWith order t line sheet budget base b) (callWith order t line sheet budget (d + base) b)
-      walked e f g h =
-          shifted-as (accepted order t line sheet budget base b (record { table = e; bytes = f; extents = g; visits = h; starts = low }))
-          (accepted order t line sheet budget (d + base) b (record { table = e; bytes = f; extents = g; visits = h; starts = high })
-          ∙ ap (λ (xs : List (ℕ × ℕ)). ended (based (d + base) s) budget b (run (tries (based (d + base) s) xs) budget 0)) alike
-          ∙ ap (ended (based (d + base) s) budget b) (run-moved s d base (order (based base s)) budget 0))
-          (ended-moved s d base b budget (run (tries (based base s) (order (based base s))) budget 0)
-          (λ n left q z. elim (stop-numbers (tries (based base s) (order (based base s))) budget 0 q) [
-            | inl i ↦ omega (arith, i, z)
-            | inr j ↦ elim j [ inl i ↦ omega (arith, i, z) | inr i ↦ omega (arith, i, z) ]
-          ]))
+  module _ (d base : ℕ) (low : baseFits base ≡ true) (high : baseFits (d + base) ≡ true) where
+    abbrev Moves : Type 0
+    Moves = Shifted d b (call base) (call (d + base))
 
-      by-budget : tableFits t ≡ true → faultAt line ≡ none → sheetFits sheet (length line) ≡ true
-          → Shifts (callWith order t line sheet budget base b) (callWith order t line sheet budget (d + base) b)
-      by-budget e f g =
-          ⊎-elim (λ h. walked e f g h)
-          (λ h. shifted-as (bad-budget order t line sheet budget base b e f g h) (bad-budget order t line sheet budget (d + base) b e f g h) (refused-alike d 5 0 b (λ z. omega (arith, z))))
-          (tested (budgetFits budget))
+    both-moved : Moves
+    both-moved =
+        ⊎-elim
+        (λ e. by-line e (faultAt line) refl)
+        (λ e. shifted-as (bad-table order t line sheet budget base b e) (bad-table order t line sheet budget (d + base) b e) (refused-alike d 2 0 b (λ z. omega (arith, z))))
+        (tested (tableFits t))
+      where
+        walked : tableFits t ≡ true → faultAt line ≡ none → sheetFits sheet (length line) ≡ true → budgetFits budget ≡ true → Moves
+        walked e f g h =
+            shifted-as (accepted order t line sheet budget base b (record { table = e; bytes = f; extents = g; visits = h; origin = low }))
+            (accepted order t line sheet budget (d + base) b (record { table = e; bytes = f; extents = g; visits = h; origin = high })
+            ∙ ap (λ (xs : List (ℕ × ℕ)). ended (based (d + base) s) budget b (run (tries (based (d + base) s) xs) budget 0)) (free s (d + base) base)
+            ∙ ap (ended (based (d + base) s) budget b) (run-moved s d base (order (based base s)) budget 0))
+            (ended-moved s d base b budget (run (tries (based base s) (order (based base s))) budget 0)
+            (λ n left q z. elim (stop-numbers (tries (based base s) (order (based base s))) budget 0 q) [
+              | inl i ↦ omega (arith, i, z)
+              | inr j ↦ elim j [ inl i ↦ omega (arith, i, z) | inr i ↦ omega (arith, i, z) ]
+            ]))
 
-      by-line : tableFits t ≡ true → (o : Option ℕ) → faultAt line ≡ o
-          → Shifts (callWith order t line sheet budget base b) (callWith order t line sheet budget (d + base) b)
-      by-line e (some p) f = shifted-as (bad-line order t line sheet budget base b p e f) (bad-line order t line sheet budget (d + base) b p e f) (refused-alike d 3 p b (λ z. omega (arith, z)))
-      by-line e none f =
-          ⊎-elim (λ g. by-budget e f g)
-          (λ g. shifted-as (bad-sheet order t line sheet budget base b e f g) (bad-sheet order t line sheet budget (d + base) b e f g) (refused-alike d 4 0 b (λ z. omega (arith, z))))
-          (tested (sheetFits sheet (length line)))
+        by-budget : tableFits t ≡ true → faultAt line ≡ none → sheetFits sheet (length line) ≡ true → Moves
+        by-budget e f g =
+            ⊎-elim (λ h. walked e f g h)
+            (λ h. shifted-as (bad-budget order t line sheet budget base b e f g h) (bad-budget order t line sheet budget (d + base) b e f g h) (refused-alike d 5 0 b (λ z. omega (arith, z))))
+            (tested (budgetFits budget))
 
-module _ (t line sheet : List ℕ) (budget d base : ℕ) (b : List ℕ) (high : baseFits (d + base) ≡ true) where
-  low : baseFits base ≡ true
+        by-line : tableFits t ≡ true → (o : Option ℕ) → faultAt line ≡ o → Moves
+        by-line e (some p) f = shifted-as (bad-line order t line sheet budget base b p e f) (bad-line order t line sheet budget (d + base) b p e f) (refused-alike d 3 p b (λ z. omega (arith, z)))
+        by-line e none f =
+            ⊎-elim (λ g. by-budget e f g)
+            (λ g. shifted-as (bad-sheet order t line sheet budget base b e f g) (bad-sheet order t line sheet budget (d + base) b e f g) (refused-alike d 4 0 b (λ z. omega (arith, z))))
+            (tested (sheetFits sheet (length line)))
+
+  -- the call under a base that is d greater, and not refused
+  pub call-moved : (d base : ℕ) → baseFits (d + base) ≡ true → Shifted d b (call base) (call (d + base))
   unfolding baseFits
-  low = le-leb base 4294967175 (omega (arith, leb-true (d + base) 4294967175 high))
+  call-moved d base high = both-moved d base (le-leb base 4294967175 (omega (arith, leb-true (d + base) 4294967175 high))) high
 
-  pub scan-moved : Shifted d b (scanCall t line sheet budget base b) (scanCall t line sheet budget (d + base) b)
-  unfolding topPairs based
-  scan-moved = call-moved topPairs t line sheet budget d base b refl low high
+  -- so number, visits and words needed are the same under any two bases, neither refused or both
+  abbrev Alike : ℕ → ℕ → Type 0
+  Alike base base′ = (call base .number ≡ call base′ .number) × (call base .visits ≡ call base′ .visits) × (call base .words ≡ call base′ .words)
 
-  pub lookup-moved : Shifted d b (lookupCall t line sheet budget base b) (lookupCall t line sheet budget (d + base) b)
-  unfolding topPairs based
-  lookup-moved = call-moved (λ s. foundPairs s (linePrefix (s .line))) t line sheet budget d base b refl low high
-
--- so number, visits and words needed are the same under any two bases that are not refused
-module _ (call : ℕ → Told) (b : List ℕ) (moves : (d base : ℕ) → baseFits (d + base) ≡ true → Shifted d b (call base) (call (d + base))) where
-  free-above : (base base′ : ℕ) → base ≤ base′ → baseFits base′ ≡ true → (call base′ .number ≡ call base .number) × (call base′ .visits ≡ call base .visits) × (call base′ .words ≡ call base .words)
-  free-above base base′ h fits =
+  above : (base base′ : ℕ) → base ≤ base′ → baseFits base′ ≡ true → Alike base′ base
+  above base base′ h fits =
       let sum : base′ - base + base ≡ base′ = omega arith in
-      let m = subst (λ (n : ℕ). Shifted (base′ - base) b (call base) (call n)) sum (moves (base′ - base) base (ap baseFits sum ∙ fits)) in
+      let m = subst (λ (n : ℕ). Shifted (base′ - base) b (call base) (call n)) sum (call-moved (base′ - base) base (ap baseFits sum ∙ fits)) in
       (m .number, m .visits, m .words)
 
-  pub base-free : (base base′ : ℕ) → baseFits base ≡ true → baseFits base′ ≡ true
-      → (call base .number ≡ call base′ .number) × (call base .visits ≡ call base′ .visits) × (call base .words ≡ call base′ .words)
-  base-free base base′ f g = by (decLe base base′)
+  both-refused : (base base′ : ℕ) → baseFits base ≡ false → baseFits base′ ≡ false → call base ≡ call base′
+  unfolding callWith
+  both-refused base base′ e f = rw (e, f) refl
+
+  pub base-free : (base base′ : ℕ) → baseFits base ≡ baseFits base′ → Alike base base′
+  base-free base base′ same = ⊎-elim (λ f. by (decLe base base′) f (sym same ∙ f)) (λ f. alike (both-refused base base′ f (sym same ∙ f))) (tested (baseFits base))
     where
-      by : Dec (base ≤ base′) → (call base .number ≡ call base′ .number) × (call base .visits ≡ call base′ .visits) × (call base .words ≡ call base′ .words)
-      by (yes h) = let (n, v, w) = free-above base base′ h g in (sym n, sym v, sym w)
-      by (no h) = free-above base′ base (omega (arith, h)) f
+      alike : call base ≡ call base′ → Alike base base′
+      alike e = (ap (λ (r : Told). r .number) e, ap (λ (r : Told). r .visits) e, ap (λ (r : Told). r .words) e)
 
-module _ (t line sheet : List ℕ) (budget : ℕ) (b : List ℕ) (base base′ : ℕ) (f : baseFits base ≡ true) (g : baseFits base′ ≡ true) where
-  pub scan-base-free : (scanCall t line sheet budget base b .number ≡ scanCall t line sheet budget base′ b .number)
-      × (scanCall t line sheet budget base b .visits ≡ scanCall t line sheet budget base′ b .visits)
-      × (scanCall t line sheet budget base b .words ≡ scanCall t line sheet budget base′ b .words)
-  scan-base-free = base-free (λ n. scanCall t line sheet budget n b) b (λ d n fits. scan-moved t line sheet budget d n b fits) base base′ f g
+      by : Dec (base ≤ base′) → baseFits base ≡ true → baseFits base′ ≡ true → Alike base base′
+      by (yes h) f g = let (n, v, w) = above base base′ h g in (sym n, sym v, sym w)
+      by (no h) f g = above base′ base (omega (arith, h)) f
 
-  pub lookup-base-free : (lookupCall t line sheet budget base b .number ≡ lookupCall t line sheet budget base′ b .number)
-      × (lookupCall t line sheet budget base b .visits ≡ lookupCall t line sheet budget base′ b .visits)
-      × (lookupCall t line sheet budget base b .words ≡ lookupCall t line sheet budget base′ b .words)
-  lookup-base-free = base-free (λ n. lookupCall t line sheet budget n b) b (λ d n fits. lookup-moved t line sheet budget d n b fits) base base′ f g
+module _ (t line sheet : List ℕ) (budget : ℕ) (b : List ℕ) where
+  pub scan-moved : (d base : ℕ) → baseFits (d + base) ≡ true → Shifted d b (scanCall t line sheet budget base b) (scanCall t line sheet budget (d + base) b)
+  scan-moved = call-moved topPairs tops-free t line sheet budget b
+
+  pub lookup-moved : (d base : ℕ) → baseFits (d + base) ≡ true → Shifted d b (lookupCall t line sheet budget base b) (lookupCall t line sheet budget (d + base) b)
+  lookup-moved = call-moved (λ s. foundPairs s (linePrefix (s .line))) found-free t line sheet budget b

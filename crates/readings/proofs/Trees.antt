@@ -34,7 +34,7 @@ mutual
       )
 
 mutual
-  tree-same : (t : Tree) → sameTree t t ≡ true
+  pub tree-same : (t : Tree) → sameTree t t ≡ true
   tree-same (node r k a) = rw (eq-eqb r r refl, eq-eqb k k refl, args-same a)
 
   args-same : (a : Args) → sameArgs a a ≡ true

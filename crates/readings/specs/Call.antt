@@ -49,7 +49,7 @@ ended s budget b (stop n left) = stoppedAfter n (budget - left) b
 unfoldable pub budgetFits : ℕ → Bool
 budgetFits v = leb 1 v && leb v 1000000
 
--- base: every place of a line that it begins fits 32 bits
+-- base: at most 4,294,967,175, so that place 120 of the line still fits 32 bits
 unfoldable pub baseFits : ℕ → Bool
 baseFits base = leb base 4294967175
 
@@ -59,7 +59,7 @@ pub record Accepted (t line sheet : List ℕ) (budget base : ℕ) : Type 0 where
   pub bytes : faultAt line ≡ none
   pub extents : sheetFits sheet (length line) ≡ true
   pub visits : budgetFits budget ≡ true
-  pub starts : baseFits base ≡ true
+  pub origin : baseFits base ≡ true
 
 abbrev pub lined : Option ℕ → List ℕ → Told → Told
 lined none b r = r

@@ -14,7 +14,7 @@ use Rattle.readings.specs.Plan.{done, run}
 use Rattle.readings.specs.Walk.{Match, scan}
 use Rattle.readings.specs.Answer.{exactCount, wordsOf}
 
--- the full scan stays within visits, depth and pool
+-- the full scan stays within visits, depth and pool; of the line alone, since a base changes neither visits nor records
 pub record Within (t line sheet : List ℕ) (budget : ℕ) : Type 0 where
   pub left : ℕ
   pub used : ℕ

@@ -9,7 +9,8 @@ use Rattle.plain.specs.Told.{Told}
 use Rattle.readings.specs.Tree.{Tree, moved}
 use Rattle.readings.specs.Answer.{wordsOf}
 
--- on 0 the same count and the same matches in the same order, each moved; on any other number nothing is written
+-- On 0 the same count and the same matches in the same order, each moved; on any other number nothing is written. Answer words
+-- are read in one way, so count and trees are those of the answer.
 pub data ShiftedWords (d : ℕ) (b : List ℕ) (here there : Told) : Type 0 where
   answered : (count : ℕ) (trees : List Tree) → here .number ≡ 0 → here .buffer ≡ atStart (wordsOf count trees) b
       → there .buffer ≡ atStart (wordsOf count (map (moved d) trees)) b → ShiftedWords d b here there

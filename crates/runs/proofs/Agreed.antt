@@ -16,7 +16,7 @@ use Rattle.readings.specs.Walk.{topPairs}
 use Rattle.readings.specs.Lookup.{foundPairs}
 use Rattle.readings.specs.Call.{Accepted}
 use Rattle.readings.proofs.Calls as Calls
-use Rattle.readings.proofs.Numbers.{Case, table, bytes, extents, visits, starts, walk, none-found, too-long, found, exactly}
+use Rattle.readings.proofs.Numbers.{Case, table, bytes, extents, visits, origin, walk, none-found, too-long, found, exactly}
 use Rattle.readings.proofs.Theorems.{scan-demand, lookup-demand, lookup-agrees}
 use Rattle.lines.specs.Lines.{Line, linesOf, programFits}
 use Rattle.runs.specs.Program.{Ran, taken, runLines, lineCall, ProgramTold, refusedWhole, ranWhole, programWith, scanProgram, lookupProgram}
@@ -88,7 +88,7 @@ module _ (t : List ℕ) (x : Line) (room : List ℕ) (within : LineWithin t x) w
   by-case (bytes p e f) = both (Calls.bad-line prefixed t (x .bytes) (x .sheet) (x .budget) (x .base) room p e f) (Calls.bad-line topPairs t (x .bytes) (x .sheet) (x .budget) (x .base) room p e f)
   by-case (extents e f g) = both (Calls.bad-sheet prefixed t (x .bytes) (x .sheet) (x .budget) (x .base) room e f g) (Calls.bad-sheet topPairs t (x .bytes) (x .sheet) (x .budget) (x .base) room e f g)
   by-case (visits e f g h) = both (Calls.bad-budget prefixed t (x .bytes) (x .sheet) (x .budget) (x .base) room e f g h) (Calls.bad-budget topPairs t (x .bytes) (x .sheet) (x .budget) (x .base) room e f g h)
-  by-case (starts e f g h i) = both (Calls.bad-base prefixed t (x .bytes) (x .sheet) (x .budget) (x .base) room e f g h i) (Calls.bad-base topPairs t (x .bytes) (x .sheet) (x .budget) (x .base) room e f g h i)
+  by-case (origin e f g h i) = both (Calls.bad-base prefixed t (x .bytes) (x .sheet) (x .budget) (x .base) room e f g h i) (Calls.bad-base topPairs t (x .bytes) (x .sheet) (x .budget) (x .base) room e f g h i)
   by-case (walk left a e) = accepted a
   by-case (none-found left used a e) = accepted a
   by-case (too-long left used m ms a e h) = accepted a
@@ -98,7 +98,7 @@ module _ (t : List ℕ) (x : Line) (room : List ℕ) (within : LineWithin t x) w
   line-agrees = by-case (exactly topPairs t (x .bytes) (x .sheet) (x .budget) (x .base) room (scanned .number) .0 refl)
 
 -- two programs that are refused alike, and else have the same rows and words
-chosen : (b c : Bool) (two seventeen r s : ProgramTold) → r .rows ≡ s .rows → r .told .words ≡ s .told .words
+pub chosen : (b c : Bool) (two seventeen r s : ProgramTold) → r .rows ≡ s .rows → r .told .words ≡ s .told .words
     → (select (not b) two (select (not c) seventeen r) .rows ≡ select (not b) two (select (not c) seventeen s) .rows)
     × (select (not b) two (select (not c) seventeen r) .told .words ≡ select (not b) two (select (not c) seventeen s) .told .words)
 chosen false c two seventeen r s e f = (refl, refl)

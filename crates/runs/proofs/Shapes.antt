@@ -19,7 +19,7 @@ use Rattle.readings.specs.Walk.{tries}
 use Rattle.readings.specs.Answer.{answerWords}
 use Rattle.readings.specs.Call.{tree, written, callWith}
 use Rattle.readings.proofs.Calls as Calls
-use Rattle.readings.proofs.Numbers.{Case, table, bytes, extents, visits, starts, walk, none-found, too-long, found, exactly, stop-numbers}
+use Rattle.readings.proofs.Numbers.{Case, table, bytes, extents, visits, origin, walk, none-found, too-long, found, exactly, stop-numbers}
 use Rattle.runs.specs.Program.{taken}
 use Rattle.runs.specs.Demand.{Kept}
 
@@ -42,7 +42,7 @@ module _ (order : Scene → List (ℕ × ℕ)) (t line sheet : List ℕ) (budget
   of-case (bytes p e f) = refusing 3 0 p (λ q. omega arith) (λ q. omega arith) (λ b. Calls.bad-line order t line sheet budget base b p e f)
   of-case (extents e f g) = refusing 4 0 0 (λ q. omega arith) (λ q. omega arith) (λ b. Calls.bad-sheet order t line sheet budget base b e f g)
   of-case (visits e f g h) = refusing 5 0 0 (λ q. omega arith) (λ q. omega arith) (λ b. Calls.bad-budget order t line sheet budget base b e f g h)
-  of-case (starts e f g h i) = refusing 19 0 0 (λ q. omega arith) (λ q. omega arith) (λ b. Calls.bad-base order t line sheet budget base b e f g h i)
+  of-case (origin e f g h i) = refusing 19 0 0 (λ q. omega arith) (λ q. omega arith) (λ b. Calls.bad-base order t line sheet budget base b e f g h i)
   of-case (walk {n = n} left a e) =
       let k = stop-numbers (tries s (order s)) budget 0 e in
       refusing n (budget - left) 0 (apart n k .0) (apart n k .1) (λ b. Calls.stopped order t line sheet budget base b a n left e)

@@ -81,7 +81,7 @@ module _ (line sheet : List ℕ) (budget base : ℕ) where
       by-base : faultAt line ≡ none → sheetFits sheet (length line) ≡ true → budgetFits budget ≡ true → CheckedAs (checkedOf line sheet budget base)
       by-base f g h =
           ⊎-elim
-          (λ e. subst CheckedAs (accepted f g h e) (accepts (record { bytes = f; extents = g; visits = h; starts = e })))
+          (λ e. subst CheckedAs (accepted f g h e) (accepts (record { bytes = f; extents = g; visits = h; origin = e })))
           (λ e. subst CheckedAs (beyond f g h e) (refuses (λ t table rules b. sym (bad-base (λ s. rules) t line sheet budget base b table f g h e))))
           (tested (baseFits base))
 

@@ -135,7 +135,7 @@ stopped-by {o} {store} m e = go (subst (Tried o store) e m)
 
 module _ {t line sheet starts places store₀ rules : List ℕ} {count budget base : ℕ} (asked : ReadAsked t line sheet starts places store₀ rules count budget base) where
   ok : Accepted t line sheet budget base
-  ok = record { table = asked .table; bytes = asked .lined .bytes; extents = asked .lined .extents; visits = asked .lined .visits; starts = asked .lined .starts }
+  ok = record { table = asked .table; bytes = asked .lined .bytes; extents = asked .lined .extents; visits = asked .lined .visits; origin = asked .lined .origin }
 
   -- the walk counts places from the line's start
   abbrev scene : Scene
@@ -146,7 +146,7 @@ module _ {t line sheet starts places store₀ rules : List ℕ} {count budget ba
 
   ok-alone : Accepted t line sheet budget 0
   unfolding baseFits
-  ok-alone = record { table = ok .table; bytes = ok .bytes; extents = ok .extents; visits = ok .visits; starts = refl }
+  ok-alone = record { table = ok .table; bytes = ok .bytes; extents = ok .extents; visits = ok .visits; origin = refl }
 
   abbrev pairs : List (ℕ × ℕ)
   pairs = triedPairs t rules count

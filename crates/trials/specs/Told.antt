@@ -60,7 +60,7 @@ pub record LineAccepted (line sheet : List ℕ) (budget base : ℕ) : Type 0 whe
   pub bytes : faultAt line ≡ none
   pub extents : sheetFits sheet (length line) ≡ true
   pub visits : budgetFits budget ≡ true
-  pub starts : baseFits base ≡ true
+  pub origin : baseFits base ≡ true
 
 abbrev pub linedCheck : Option ℕ → Checked → Checked
 linedCheck none r = r
