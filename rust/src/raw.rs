@@ -36,6 +36,8 @@ pub struct Program<'a> {
     pub sheets: &'a [u8],
     /// A budget for each line.
     pub budgets: &'a [u32],
+    /// A base for each line.
+    pub bases: &'a [u32],
 }
 
 /// Which rules a call tries: all top rules, or those that the line's prefixes lead to.
@@ -55,7 +57,8 @@ extern "C" {
         sheet: *const u8,
         sheet_len: usize,
         budget: u32,
-        answer: *mut u16,
+        base: u32,
+        answer: *mut u32,
         answer_len: usize,
     ) -> Answer;
 
@@ -67,7 +70,8 @@ extern "C" {
         sheet: *const u8,
         sheet_len: usize,
         budget: u32,
-        answer: *mut u16,
+        base: u32,
+        answer: *mut u32,
         answer_len: usize,
     ) -> Answer;
 
@@ -82,9 +86,11 @@ extern "C" {
         sheets_len: usize,
         budgets: *const u32,
         budgets_len: usize,
+        bases: *const u32,
+        bases_len: usize,
         rows: *mut u32,
         rows_len: usize,
-        answers: *mut u16,
+        answers: *mut u32,
         answers_len: usize,
     ) -> Answer;
 
@@ -99,9 +105,11 @@ extern "C" {
         sheets_len: usize,
         budgets: *const u32,
         budgets_len: usize,
+        bases: *const u32,
+        bases_len: usize,
         rows: *mut u32,
         rows_len: usize,
-        answers: *mut u16,
+        answers: *mut u32,
         answers_len: usize,
     ) -> Answer;
 
@@ -141,7 +149,8 @@ pub fn call(
     line: &[u8],
     sheet: &[u8],
     budget: u32,
-    answer: &mut [u16],
+    base: u32,
+    answer: &mut [u32],
 ) -> Answer {
     let function = match order {
         Order::Scan => tholdrimash_match,
@@ -158,6 +167,7 @@ pub fn call(
             sheet.as_ptr(),
             sheet.len(),
             budget,
+            base,
             answer.as_mut_ptr(),
             answer.len(),
         )
@@ -169,7 +179,7 @@ pub fn program(
     table: &[u16],
     program: Program<'_>,
     rows: &mut [u32],
-    answers: &mut [u16],
+    answers: &mut [u32],
 ) -> Answer {
     let function = match order {
         Order::Scan => tholdrimash_match_program,
@@ -180,6 +190,7 @@ pub fn program(
         ends,
         sheets,
         budgets,
+        bases,
     } = program;
     // SAFETY: each pointer and length is a slice's own. Only `rows` and `answers` are written, and
     // they overlap nothing, since they are borrowed to be changed.
@@ -195,6 +206,8 @@ pub fn program(
             sheets.len(),
             budgets.as_ptr(),
             budgets.len(),
+            bases.as_ptr(),
+            bases.len(),
             rows.as_mut_ptr(),
             rows.len(),
             answers.as_mut_ptr(),

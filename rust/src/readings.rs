@@ -7,7 +7,7 @@ use std::slice::Iter;
 /// The deepest that a tree may nest: 0 for a top rule, up to 16.
 const DEEPEST: usize = 16;
 
-type Words<'a> = Copied<Iter<'a, u16>>;
+type Words<'a> = Copied<Iter<'a, u32>>;
 
 /// The readings that a match found, all with the same, greatest exact count.
 ///
@@ -15,7 +15,7 @@ type Words<'a> = Copied<Iter<'a, u16>>;
 #[derive(Clone, Debug, PartialEq, Eq)]
 pub struct Readings {
     /// The exact count that each has: its exact parts, those of nested rules included.
-    pub count: u16,
+    pub count: u32,
     /// A tree for each, in the order in which they were found.
     pub trees: Vec<Tree>,
 }
@@ -24,9 +24,9 @@ pub struct Readings {
 #[derive(Clone, Debug, PartialEq, Eq)]
 pub struct Tree {
     /// The rule's ruleset.
-    pub ruleset: u16,
+    pub ruleset: u32,
     /// The rule's number, from 0 within its ruleset.
-    pub rule: u16,
+    pub rule: u32,
     /// One for each parameter, in their order.
     pub arguments: Vec<Argument>,
 }
@@ -35,7 +35,7 @@ pub struct Tree {
 #[derive(Clone, Debug, PartialEq, Eq)]
 pub struct Argument {
     /// Its bytes in the line, without the whitespace before them. It may be empty.
-    pub span: Range<usize>,
+    pub span: Range<u32>,
     /// What they are.
     pub kind: Kind,
 }
@@ -70,7 +70,7 @@ impl Readings {
     ///
     /// assert_eq!(Readings::read(&words[..10]), None);
     /// ```
-    pub fn read(words: &[u16]) -> Option<Readings> {
+    pub fn read(words: &[u32]) -> Option<Readings> {
         let mut words = words.iter().copied();
         let matches = words.next()?;
         let count = words.next()?;
@@ -111,7 +111,7 @@ fn argument(words: &mut Words, depth: usize) -> Option<Argument> {
         _ => return None,
     };
     Some(Argument {
-        span: start.into()..end.into(),
+        span: start..end,
         kind,
     })
 }
