@@ -54,13 +54,13 @@ NESTED_MATCHES = """|walker| match_with_ruledef(
 
 
 def span_of(span, start, end):
-    """The span, and then another of these two places, which may name the right ones."""
-    places = "let (start, end) = span.location().unwrap();\n"
+    """The span, and then another in its place, from what its own start and end are."""
+    places = "let (start, end) = span.location().unwrap();\nlet _ = (start, end);\n"
     return f"{span}\n{places}let span = diagn::Span::new(span.file_handle, {start}, {end});\n"
 
 
 def compared(place):
-    """The test of two spans, by something of each place."""
+    """The test of two spans by something of their places alone."""
     return f"""let places = |span: diagn::Span| {{
             let (start, end) = span.location().unwrap();
             ({place.format("start")}, {place.format("end")})
@@ -68,7 +68,7 @@ def compared(place):
         if places(self.span) != places(other.span)"""
 
 
-# The arguments of every match that a nested step has found lose what the walker adds.
+# The arguments of every match that a nested step has found lose the base.
 NESTED_AT_0 = """|walker| {
                     let mut found = match_with_ruledef(defs, nested_ruledef_ref, walker.clone(), false);
                     for (mtch, walker) in &mut found {
@@ -149,21 +149,21 @@ WRONG = [
     ("the line's end as its base", MATCHER, "span.location().unwrap().0);", "span.location().unwrap().1);"),
     ("no base in lookup", MATCHER, "match_with_ruledef_map(\n            defs,\n            walker);",
      "match_with_ruledef_map(\n            defs,\n            syntax::Walker::new(src, span.file_handle, 0));"),
-    ("no base in an expression's end", MATCHER, EXPRESSION_SPAN, span_of(EXPRESSION_SPAN, "start", "end * 0 + walker_end")),
-    ("no base in an expression's start", MATCHER, EXPRESSION_SPAN, span_of(EXPRESSION_SPAN, "start * 0 + walker_start", "end")),
-    ("no base in a nested argument's end", MATCHER, NESTED_SPAN, span_of(NESTED_SPAN, "start", "end * 0 + walker_end")),
-    ("no base in a nested argument's start", MATCHER, NESTED_SPAN, span_of(NESTED_SPAN, "start * 0 + walker_start", "end")),
+    ("no base in an expression's start", MATCHER, EXPRESSION_SPAN, span_of(EXPRESSION_SPAN, "walker_start", "end")),
+    ("no base in an expression's end", MATCHER, EXPRESSION_SPAN, span_of(EXPRESSION_SPAN, "start", "walker_end")),
+    ("no base in a nested argument's start", MATCHER, NESTED_SPAN, span_of(NESTED_SPAN, "walker_start", "end")),
+    ("no base in a nested argument's end", MATCHER, NESTED_SPAN, span_of(NESTED_SPAN, "start", "walker_end")),
     ("the base twice in a nested argument", MATCHER, NESTED_SPAN,
      span_of(NESTED_SPAN, "start + start - walker_start", "end + end - walker_end")),
     ("no base in the arguments of nested matches", MATCHER, NESTED_MATCHES, NESTED_AT_0),
     ("places of 16 bits", MATCHER, BOTH_SPANS, [span_of(s, "start % (1 << 16)", "end % (1 << 16)") for s in BOTH_SPANS]),
     ("places of 31 bits", MATCHER, BOTH_SPANS, [span_of(s, "start % (1 << 31)", "end % (1 << 31)") for s in BOTH_SPANS]),
-    ("2^32 - 1 taken for no place", MATCHER, BOTH_SPANS,
+    ("0 for the place 2^32 - 1", MATCHER, BOTH_SPANS,
      [span_of(s, "start % ((1 << 32) - 1)", "end % ((1 << 32) - 1)") for s in BOTH_SPANS]),
-    ("places past 2^32 - 1 held there", MATCHER, BOTH_SPANS,
+    ("2^32 - 1 for places past it", MATCHER, BOTH_SPANS,
      [span_of(s, "start.min((1 << 32) - 1)", "end.min((1 << 32) - 1)") for s in BOTH_SPANS]),
     ("spans compared up to 2^16 alone", MATCHER, SPANS_DIFFER, compared("{}.min(1 << 16)")),
-    ("spans compared as numbers of 24 bits and an exponent", MATCHER, SPANS_DIFFER, compared("{} as f32")),
+    ("spans compared in floating point of 32 bits", MATCHER, SPANS_DIFFER, compared("{} as f32")),
     ("spans compared up to 2^31 alone", MATCHER, SPANS_DIFFER, compared("{}.min(1 << 31)")),
     ("no base where a token ends", WALKER, "span.location().unwrap().1 - self.span_offset", "span.location().unwrap().1"),
     ("no base at the limit", WALKER, "self.span_offset + self.cursor_limit;", "self.cursor_limit;"),

@@ -1,6 +1,6 @@
-//! The third reading: documents 01 and 02 in plain Rust, slowly and from their sentences alone, neither the published text nor the
-//! proved code. It is the independent check of every refusal, counts the visits and records that the Rust does not report,
-//! and tells what a case exercises.
+//! The third reading: documents 01 and 02 in plain Rust, slowly and from their sentences alone, neither the published text nor
+//! the proved code. It is the independent check of every refusal, counts the visits and records that the Rust does not
+//! report, and tells what a case exercises.
 
 const WHITESPACE: u16 = 256;
 const EXPRESSION: u16 = 257;

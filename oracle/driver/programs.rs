@@ -178,8 +178,8 @@ fn some_bases(random: &mut Random, lines: usize) -> Vec<u32> {
 }
 
 /// Every list of at most three ends from 0 to 4 over the text `aaa`, with as many sheets, budgets, bases and rows as its lines
-/// have, and with one byte or word more and fewer of each. The table has a rule that is a nested `a`, one that is `a a` and one
-/// of no parts, so that no program's answers take more words than the greatest room.
+/// have, and with one byte or word more and fewer of each; and with every room up to what three answers take. The table has
+/// a rule that is a nested `a`, one that is `a a` and one of no parts.
 pub fn shapes(report: &mut Report) {
     let random = &mut bases::stream(0, 0);
     let table = vec![2, 4, 4, 0, 1, 0, 0, 1, 0, 1, 2, 0, 3, 0, 1, 3, 1, 513, 97, 97, 97];
