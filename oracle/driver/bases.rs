@@ -8,7 +8,7 @@ pub const GREATEST: u32 = 4_294_967_175;
 /// Where words of 16 bits end, and signed ones of 32.
 pub const MARKS: [u32; 2] = [1 << 16, 1 << 31];
 
-/// How far before a mark, or before the greatest, a base is made.
+/// How far before a mark, or before the greatest, a base is made: past a longest line's length.
 const WIDTH: usize = 121;
 
 /// Bases come from a stream of their own, so that the other inputs of a seed are the same whatever is drawn here.
@@ -16,10 +16,10 @@ pub fn stream(seed: u64, number: u64) -> Random {
     Random::new(seed ^ 0x6261_7365, number)
 }
 
-/// Mostly so near that a short line reaches as far.
-fn distance(random: &mut Random) -> u32 {
+/// A base before a place, or there: half of them so near that a short line reaches it.
+fn before(random: &mut Random, place: u32) -> u32 {
     let most = *random.pick(&[14, WIDTH]);
-    random.between(0, most) as u32
+    place - random.between(0, most) as u32
 }
 
 /// A base that no call refuses: 0, a small one, one around a mark, the greatest and those just below it.
@@ -27,10 +27,10 @@ pub fn good(random: &mut Random) -> u32 {
     match random.below(8) {
         0 => 0,
         1 | 2 => random.between(1, 200) as u32,
-        3 | 4 => MARKS[0] + 1 - distance(random),
-        5 => MARKS[1] + 1 - distance(random),
+        3 | 4 => before(random, MARKS[0]) + random.below(2) as u32,
+        5 => before(random, MARKS[1]) + random.below(2) as u32,
         6 => GREATEST,
-        _ => GREATEST - distance(random),
+        _ => before(random, GREATEST),
     }
 }
 
@@ -39,7 +39,7 @@ pub fn too_great(random: &mut Random) -> u32 {
     match random.below(4) {
         0 | 1 => GREATEST + 1,
         2 => u32::MAX,
-        _ => GREATEST + random.between(2, WIDTH - 2) as u32,
+        _ => random.between(GREATEST as usize + 2, u32::MAX as usize - 1) as u32,
     }
 }
 
