@@ -36,7 +36,8 @@ pub struct Program<'a> {
     pub sheets: &'a [u8],
     /// A budget for each line.
     pub budgets: &'a [u32],
-    /// A base for each line.
+    /// A base for each line: where it begins in its file, which mostly is another place than in the
+    /// text, since nothing stands between the lines there.
     pub bases: &'a [u32],
 }
 

@@ -34,7 +34,8 @@ pub struct Tree {
 /// What a parameter stands for.
 #[derive(Clone, Debug, PartialEq, Eq)]
 pub struct Argument {
-    /// Its bytes in the line, without the whitespace before them. It may be empty.
+    /// Where its bytes stand in the file, without the whitespace before them: each place is the
+    /// call's base plus the offset within the line. It may be empty.
     pub span: Range<u32>,
     /// What they are.
     pub kind: Kind,
@@ -47,6 +48,33 @@ pub enum Kind {
     Expression,
     /// A rule of the ruleset that the parameter names.
     Nested(Tree),
+}
+
+impl Argument {
+    /// Its bytes, out of the file whose places the base counted: out of the line itself where the
+    /// base was 0. `None` if the span is none of this file's.
+    ///
+    /// ```
+    /// use tholdrimash::{match_line, sheet_of, Readings};
+    ///
+    /// # fn main() -> Result<(), Box<dyn std::error::Error>> {
+    /// let mov = [1, 1, 5, 0, 0, 0, 5, 109, 111, 118, 256, 257]; // mov, whitespace, an expression
+    /// let file = "mov 7\nmov x+1\n";
+    /// let line = b"mov x+1"; // which begins at byte 6
+    ///
+    /// let mut answer = [0; 8];
+    /// let words = match_line(&mov, line, &sheet_of(line)?, 100, 6, &mut answer).written()?;
+    /// let readings = Readings::read(&answer[..words]).expect("a whole answer");
+    /// let argument = &readings.trees[0].arguments[0];
+    /// assert_eq!(argument.span, 10..13);
+    /// assert_eq!(argument.bytes(file.as_bytes()), Some(&b"x+1"[..]));
+    /// assert_eq!(argument.bytes(line), None);
+    /// # Ok(())
+    /// # }
+    /// ```
+    pub fn bytes<'a>(&self, file: &'a [u8]) -> Option<&'a [u8]> {
+        file.get(self.span.start as usize..self.span.end as usize)
+    }
 }
 
 impl Readings {
