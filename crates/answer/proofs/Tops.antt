@@ -7,18 +7,19 @@ use native.Mathlib.Omega.{arith}
 use native.Mathlib.Numerals.{add-one}
 use lib.ListN.{length, take, drop, getD, take-append-drop}
 use lib.Seq.{take-suc, take-all}
-use Rattle.readings.specs.Tree.{Tree}
+use Rattle.readings.specs.Tree.{Tree, moved}
 use Rattle.readings.specs.Walk.{Match}
 use Rattle.readings.specs.Scene.{sceneOf}
 use Rattle.readings.specs.Call.{tree}
 use Rattle.readings.specs.Answer.{exactCount, treeWords}
+use Rattle.readings.specs.Measure.{Fit}
 use Rattle.pool.specs.Log.{decode, depthIn}
 use Rattle.pool.specs.Meaning.{none, Entry, argued, treeAt, gathered, Stored, entries}
 use Rattle.pool.proofs.Words.{digits}
 use Rattle.pool.proofs.Meanings.{gathered-append}
 use Rattle.pool.proofs.Gathers.{entries-length, nothing-here, something-here}
 use Rattle.trees.specs.Asked.{treeLength, TreeAsked}
-use Rattle.answer.specs.Measured.{treesIn, treesTo, Bounded}
+use Rattle.answer.specs.Measured.{treesIn, treesTo, Bounded, FitFrom}
 
 -- the matches of records one list after another
 tops-append : (xs ys : List Entry) → map tree (gathered 0 (xs ++ ys)) ≡ map tree (gathered 0 xs) ++ map tree (gathered 0 ys)
@@ -65,6 +66,9 @@ module _ (store : List ℕ) (used : ℕ) where
             let (rest, e) = the-rest (i + 1) in
             subst (List·Memᴰ (treeAt (entries store used) i)) (sym (e ∙ ap (λ (l : List Tree). l ++ rest) one-here))
             (Memᴰ·append-left rest (Memᴰ·append-right (treesTo store used i) (List·Memᴰ·head refl)))
+
+        pub tree-fit : {base : ℕ} → FitFrom base store used → Fit (treeWords (moved base (treeAt (entries store used) i)))
+        tree-fit fit = fit .each _ among
 
         module _ (t : List ℕ) (bounded : Bounded t store used) where
           pub count-asked : TreeAsked (exactCount (sceneOf t [] [])) 65535 store used i

@@ -3,10 +3,11 @@ use mathlib.Core.Path.{_≡_}
 use mathlib.Core.List.{List, [], map, List·Memᴰ}
 use Prim.Native.Nat.{ℕ, _≤_, _<_}
 use lib.ListN.{length, take, getD}
-use Rattle.readings.specs.Tree.{Tree}
+use Rattle.readings.specs.Tree.{Tree, moved}
 use Rattle.readings.specs.Scene.{sceneOf}
 use Rattle.readings.specs.Call.{tree}
 use Rattle.readings.specs.Answer.{exactCount, greatestCount, best, treeWords, answerWords}
+use Rattle.readings.specs.Measure.{Fit}
 use Rattle.pool.specs.Log.{decode, depthIn}
 use Rattle.pool.specs.Meaning.{gathered, Stored, entries}
 use Rattle.trees.specs.Asked.{Begun}
@@ -24,6 +25,10 @@ treesTo store used i = map tree (gathered 0 (take i (entries store used)))
 pub record Bounded (t store : List ℕ) (used : ℕ) : Type 0 where
   pub counts : (u : Tree) → List·Memᴰ u (treesIn store used) → exactCount (sceneOf t [] []) u ≤ 65535
   pub words : (u : Tree) → List·Memᴰ u (treesIn store used) → length (treeWords u) ≤ 12288
+
+-- under a base, every word of theirs fits 32 bits
+pub record FitFrom (base : ℕ) (store : List ℕ) (used : ℕ) : Type 0 where
+  pub each : (u : Tree) → List·Memᴰ u (treesIn store used) → Fit (treeWords (moved base u))
 
 -- the answer's number of matches, greatest count and number of words
 unfoldable pub measured : List ℕ → List Tree → Measure

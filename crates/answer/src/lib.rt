@@ -2,14 +2,15 @@
 // `src/asm/matcher/mod.rs`, which counts each match and keeps those with the maximum; here the matches are the pool's
 // records of depth 0, and the answer is measured before anything is written.
 ghost use mathlib.Core.Path.{_≡_};
-ghost use mathlib.Core.List.{[]};
+ghost use mathlib.Core.List.{[], map};
 ghost use Prim.Native.Nat.{_+_, _≤_};
 ghost use lib.ListN.{length};
+ghost use Rattle.readings.specs.Tree.{moved};
 ghost use Rattle.readings.specs.Answer.{answerWords};
 ghost use Rattle.readings.specs.Scene.{sceneOf};
 ghost use Rattle.pool.specs.Meaning.{Stored};
 ghost use Rattle.trees.specs.Asked.{Begun};
-ghost use Rattle.answer.specs.Measured.{treesIn, treesTo, Bounded, measured, OneMore};
+ghost use Rattle.answer.specs.Measured.{treesIn, treesTo, Bounded, FitFrom, measured, OneMore};
 ghost use Rattle.plain.specs.Buffers.{atStart};
 
 // How many matches the answer has, their exact count, and how many words it takes.
@@ -80,26 +81,29 @@ fn add_match(
     }
 }
 
-// Writes the answer at the buffer's start, and leaves the rest of the buffer unchanged.
+// Writes the answer at the buffer's start, with every start and end as base plus offset, and leaves the rest of the buffer
+// unchanged.
 pub fn write_answer(
     table: &[u16],
     starts: &[u16],
     store: &[usize],
     used: usize,
     measure: Measure,
-    answer: &mut [u16],
+    base: usize,
+    answer: &mut [u32],
 )
     requires { ⌜ Stored (now store) used ⌝ }
     requires { ⌜ Begun (now table) (now starts) ⌝ }
     requires { ⌜ Bounded (now table) (now store) used ⌝ }
     requires { ⌜ measure ≡ measured (now table) (treesIn (now store) used) ⌝ }
+    requires { ⌜ FitFrom base (now store) used ⌝ }
     requires { ⌜ measure .words ≤ length (now answer) ⌝ }
-    ensures answers { λ _. ⌜ now (answer .exit) ≡ atStart (answerWords (sceneOf (now (table .entry)) [] []) (treesIn (now (store .entry)) used)) (now (answer .entry)) ⌝ }
+    ensures answers { λ _. ⌜ now (answer .exit) ≡ atStart (answerWords (sceneOf (now (table .entry)) [] []) (map (moved base) (treesIn (now (store .entry)) used))) (now (answer .entry)) ⌝ }
 {
     let matches = measure.matches;
     let greatest = measure.greatest;
-    answer[0] = matches as u16;
-    answer[1] = greatest as u16;
+    answer[0] = matches as u32;
+    answer[1] = greatest as u32;
     let mut at: usize = HEAD;
     let mut i: usize = 0;
     while i < used {
@@ -108,7 +112,7 @@ pub fn write_answer(
         if pool::depth_at(store, m) == TOP {
             let count = trees::get_recursive_exact_part_count(table, starts, store, used, m);
             if count == greatest {
-                at = words::write_tree(store, used, m, answer, at);
+                at = words::write_tree(store, used, m, base, answer, at);
             }
         }
     }

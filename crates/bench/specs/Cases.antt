@@ -54,17 +54,17 @@ movP w = 109 ∷ 111 ∷ 118 ∷ w ∷ 112 ∷ []
 
 -- a rule on a line without expressions
 abbrev pub tried : List ℕ → List ℕ → ℕ → List ℕ
-tried ps line entries = shown (scanCall (oneRule ps) line (noEnds entries) 1000000 nines)
+tried ps line entries = shown (scanCall (oneRule ps) line (noEnds entries) 1000000 0 nines)
 
 -- the cases, with this byte wherever document 01 has a space: any whitespace does
 unfoldable pub cases : ℕ → List (List ℕ)
 cases w =
     -- 1, by scan and by lookup
-    shown (scanCall T (movP w) free35 1000000 nines)
-    ∷ shown (lookupCall T (movP w) free35 1000000 nines)
+    shown (scanCall T (movP w) free35 1000000 0 nines)
+    ∷ shown (lookupCall T (movP w) free35 1000000 0 nines)
     -- 2
-    ∷ shown (scanCall T (movP w) free35 14 nines)
-    ∷ shown (scanCall T (movP w) free35 15 nines)
+    ∷ shown (scanCall T (movP w) free35 14 0 nines)
+    ∷ shown (scanCall T (movP w) free35 15 0 nines)
     -- 3: `a+b`, `+a+b`, `(a+b)+c`
     ∷ cutIn 43 (97 ∷ 43 ∷ 98 ∷ [])
     ∷ cutIn 43 (43 ∷ 97 ∷ 43 ∷ 98 ∷ [])
@@ -87,7 +87,7 @@ cases w =
     ∷ tried (97 ∷ 120 ∷ []) (97 ∷ 120 ∷ []) 18
     ∷ tried (97 ∷ 120 ∷ []) (97 ∷ w ∷ 120 ∷ []) 32
     -- 9: an expression, `+`, `c` on `ab +c`, with free(0, 5) = 2 and free(0, 3) = 3
-    ∷ shown (scanCall (oneRule (257 ∷ 43 ∷ 99 ∷ [])) (97 ∷ 98 ∷ w ∷ 43 ∷ 99 ∷ []) (set (set (noEnds 72) 5 2) 3 3) 1000000 nines)
+    ∷ shown (scanCall (oneRule (257 ∷ 43 ∷ 99 ∷ [])) (97 ∷ 98 ∷ w ∷ 43 ∷ 99 ∷ []) (set (set (noEnds 72) 5 2) 3 3) 1000000 0 nines)
     -- 10: a rule with no parts on an empty line
     ∷ tried [] [] 2
     -- 11
@@ -131,7 +131,11 @@ answers =
 -- This byte at a line's ends: last, alone, and before `-1-2`, which is cut for `-`.
 unfoldable pub atEnds : ℕ → List (List ℕ)
 atEnds w =
-    shown (scanCall T (109 ∷ 111 ∷ 118 ∷ w ∷ []) free35 1000000 nines)
-    ∷ shown (scanCall T (w ∷ []) free35 1000000 nines)
+    shown (scanCall T (109 ∷ 111 ∷ 118 ∷ w ∷ []) free35 1000000 0 nines)
+    ∷ shown (scanCall T (w ∷ []) free35 1000000 0 nines)
     ∷ cutIn 45 (w ∷ 45 ∷ 49 ∷ 45 ∷ 50 ∷ [])
     ∷ []
+
+-- Case 1 of a line that begins at this base: start and end are moved, and nothing else.
+unfoldable pub atBase : ℕ → List ℕ
+atBase base = shown (scanCall T (movP 32) free35 1000000 base nines)

@@ -20,8 +20,8 @@ use Rattle.expressions.specs.Call.{filledWith}
 use Rattle.expressions.specs.declared.Filling.the-variants.{Filled}
 use Rattle.expressions.proofs.Called.{filled-good, filled-is}
 use Rattle.expressions.proofs.fill_sheet.Reads as fill-sheet
-use Rattle.readings.specs.Scene.{Scene, sceneOf}
-use Rattle.readings.specs.Call.{Accepted, budgetFits, callWith}
+use Rattle.readings.specs.Scene.{Scene, sceneOf, based}
+use Rattle.readings.specs.Call.{Accepted, budgetFits, baseFits, callWith}
 use Rattle.readings.specs.Demand.{Within, Demand3}
 use Rattle.readings.specs.Walk.{topPairs}
 use Rattle.readings.specs.Lookup.{foundPairs}
@@ -35,21 +35,21 @@ use Rattle.line_readings.specs.LineReading.{lineScene}
 use Rattle.line_readings.proofs.Scenes.{same-scene}
 
 -- on a sheet that fits, no call is 4
-module _ (order : Scene → List (ℕ × ℕ)) (t line sheet : List ℕ) (budget : ℕ) (b : List ℕ) (fits : sheetFits sheet (length line) ≡ true) where
-  not-four : Case order t line sheet budget b 4 → ⊥
+module _ (order : Scene → List (ℕ × ℕ)) (t line sheet : List ℕ) (budget base : ℕ) (b : List ℕ) (fits : sheetFits sheet (length line) ≡ true) where
+  not-four : Case order t line sheet budget base b 4 → ⊥
   not-four (extents e f g) = not-both fits g
   not-four (walk left a e) = ⊎-elim (λ q. omega (arith, q)) (λ r. ⊎-elim (λ q. omega (arith, q)) (λ q. omega (arith, q)) r) (stop-numbers _ budget 0 e)
 
-  pub never-four : callWith order t line sheet budget b .number ≡ 4 → ⊥
-  never-four e = not-four (exactly order t line sheet budget b 4 .0 e)
+  pub never-four : callWith order t line sheet budget base b .number ≡ 4 → ⊥
+  never-four e = not-four (exactly order t line sheet budget base b 4 .0 e)
 
 -- demand 3 over the readings of the line, from what is promised on its sheet
 module _ (t line sheet : List ℕ) (good : faultAt line ≡ none) (is : sheet ≡ sheetOf line) (fits : sheetFits sheet (length line) ≡ true) where
-  pub reads-alone : (budget : ℕ) (b : List ℕ) (told : Told) → (Accepted t line sheet budget → Within t line sheet budget → Demand3 (sceneOf t line sheet) b told)
-      → tableFits t ≡ true → budgetFits budget ≡ true → Within t line sheet budget → Demand3 (lineScene t line) b told
-  reads-alone budget b told promise table-good budget-good within =
-      subst (λ (s : Scene). Demand3 s b told) (ap (sceneOf t line) is ∙ same-scene t line (good-is line .0 good .short))
-      (promise (record { table = table-good; bytes = good; extents = fits; visits = budget-good }) within)
+  pub reads-alone : (budget base : ℕ) (b : List ℕ) (told : Told) → (Accepted t line sheet budget base → Within t line sheet budget → Demand3 (based base (sceneOf t line sheet)) b told)
+      → tableFits t ≡ true → budgetFits budget ≡ true → baseFits base ≡ true → Within t line sheet budget → Demand3 (based base (lineScene t line)) b told
+  reads-alone budget base b told promise table-good budget-good base-good within =
+      subst (λ (s : Scene). Demand3 (based base s) b told) (ap (sceneOf t line) is ∙ same-scene t line (good-is line .0 good .short))
+      (promise (record { table = table-good; bytes = good; extents = fits; visits = budget-good; starts = base-good }) within)
 
 -- the calls: filling, then matching on the line and the sheet that it left
 module _ (κs a : _) (n : ℕ) (x : _) (fill : fill-sheet.Post κs a (Filled n) x) where
@@ -81,25 +81,25 @@ module _ (κs a : _) (n : ℕ) (x : _) (fill : fill-sheet.Post κs a (Filled n) 
     there-fits = ap₂ (λ (s l : List ℕ). sheetFits s (length l)) same-sheet same-line ∙ fits
 
   -- it is never 4
-  pub scan-not-four : (μs c : _) (r : Answer) (z : _) → match-instr.Post μs c r z → now (c .1 .0) ≡ line → now (c .1 .1 .0) ≡ sheet → says r (now (z .1 .1 .1 .1 .0)) .number ≡ 4 → ⊥
+  pub scan-not-four : (μs c : _) (r : Answer) (z : _) → match-instr.Post μs c r z → now (c .1 .0) ≡ line → now (c .1 .1 .0) ≡ sheet → says r (now (z .1 .1 .1 .1 .1 .0)) .number ≡ 4 → ⊥
   scan-not-four μs c r z p l s e =
-      never-four topPairs (now (c .0)) (now (c .1 .0)) (now (c .1 .1 .0)) (c .1 .1 .1 .0) (now (c .1 .1 .1 .1 .0)) (there-fits (now (c .1 .0)) (now (c .1 .1 .0)) l s)
+      never-four topPairs (now (c .0)) (now (c .1 .0)) (now (c .1 .1 .0)) (c .1 .1 .1 .0) (c .1 .1 .1 .1 .0) (now (c .1 .1 .1 .1 .1 .0)) (there-fits (now (c .1 .0)) (now (c .1 .1 .0)) l s)
       (sym (ap (λ (t : Told). t .number) (p .0)) ∙ e)
 
-  pub lookup-not-four : (μs c : _) (r : Answer) (z : _) → match-with-ruledef-map.Post μs c r z → now (c .1 .0) ≡ line → now (c .1 .1 .0) ≡ sheet → says r (now (z .1 .1 .1 .1 .0)) .number ≡ 4 → ⊥
+  pub lookup-not-four : (μs c : _) (r : Answer) (z : _) → match-with-ruledef-map.Post μs c r z → now (c .1 .0) ≡ line → now (c .1 .1 .0) ≡ sheet → says r (now (z .1 .1 .1 .1 .1 .0)) .number ≡ 4 → ⊥
   lookup-not-four μs c r z p l s e =
-      never-four (λ s. foundPairs s (linePrefix (s .line))) (now (c .0)) (now (c .1 .0)) (now (c .1 .1 .0)) (c .1 .1 .1 .0) (now (c .1 .1 .1 .1 .0)) (there-fits (now (c .1 .0)) (now (c .1 .1 .0)) l s)
+      never-four (λ s. foundPairs s (linePrefix (s .line))) (now (c .0)) (now (c .1 .0)) (now (c .1 .1 .0)) (c .1 .1 .1 .0) (c .1 .1 .1 .1 .0) (now (c .1 .1 .1 .1 .1 .0)) (there-fits (now (c .1 .0)) (now (c .1 .1 .0)) l s)
       (sym (ap (λ (t : Told). t .number) (p .0)) ∙ e)
 
   -- and tells the readings of the line alone, as demand 3 says
-  pub scan-reads : (μs c : _) (r : Answer) (z : _) → match-instr.Post μs c r z → now (c .1 .0) ≡ line → now (c .1 .1 .0) ≡ sheet → tableFits (now (c .0)) ≡ true → budgetFits (c .1 .1 .1 .0) ≡ true
-      → Within (now (c .0)) (now (c .1 .0)) (now (c .1 .1 .0)) (c .1 .1 .1 .0) → Demand3 (lineScene (now (c .0)) (now (c .1 .0))) (now (c .1 .1 .1 .1 .0)) (says r (now (z .1 .1 .1 .1 .0)))
+  pub scan-reads : (μs c : _) (r : Answer) (z : _) → match-instr.Post μs c r z → now (c .1 .0) ≡ line → now (c .1 .1 .0) ≡ sheet → tableFits (now (c .0)) ≡ true → budgetFits (c .1 .1 .1 .0) ≡ true → baseFits (c .1 .1 .1 .1 .0) ≡ true
+      → Within (now (c .0)) (now (c .1 .0)) (now (c .1 .1 .0)) (c .1 .1 .1 .0) → Demand3 (based (c .1 .1 .1 .1 .0) (lineScene (now (c .0)) (now (c .1 .0)))) (now (c .1 .1 .1 .1 .1 .0)) (says r (now (z .1 .1 .1 .1 .1 .0)))
   scan-reads μs c r z p l s =
       reads-alone (now (c .0)) (now (c .1 .0)) (now (c .1 .1 .0)) (there-good (now (c .1 .0)) (now (c .1 .1 .0)) l s) (there-is (now (c .1 .0)) (now (c .1 .1 .0)) l s)
-      (there-fits (now (c .1 .0)) (now (c .1 .1 .0)) l s) (c .1 .1 .1 .0) (now (c .1 .1 .1 .1 .0)) (says r (now (z .1 .1 .1 .1 .0))) (p .1)
+      (there-fits (now (c .1 .0)) (now (c .1 .1 .0)) l s) (c .1 .1 .1 .0) (c .1 .1 .1 .1 .0) (now (c .1 .1 .1 .1 .1 .0)) (says r (now (z .1 .1 .1 .1 .1 .0))) (p .1)
 
-  pub lookup-reads : (μs c : _) (r : Answer) (z : _) → match-with-ruledef-map.Post μs c r z → now (c .1 .0) ≡ line → now (c .1 .1 .0) ≡ sheet → tableFits (now (c .0)) ≡ true → budgetFits (c .1 .1 .1 .0) ≡ true
-      → Within (now (c .0)) (now (c .1 .0)) (now (c .1 .1 .0)) (c .1 .1 .1 .0) → Demand3 (lineScene (now (c .0)) (now (c .1 .0))) (now (c .1 .1 .1 .1 .0)) (says r (now (z .1 .1 .1 .1 .0)))
+  pub lookup-reads : (μs c : _) (r : Answer) (z : _) → match-with-ruledef-map.Post μs c r z → now (c .1 .0) ≡ line → now (c .1 .1 .0) ≡ sheet → tableFits (now (c .0)) ≡ true → budgetFits (c .1 .1 .1 .0) ≡ true → baseFits (c .1 .1 .1 .1 .0) ≡ true
+      → Within (now (c .0)) (now (c .1 .0)) (now (c .1 .1 .0)) (c .1 .1 .1 .0) → Demand3 (based (c .1 .1 .1 .1 .0) (lineScene (now (c .0)) (now (c .1 .0)))) (now (c .1 .1 .1 .1 .1 .0)) (says r (now (z .1 .1 .1 .1 .1 .0)))
   lookup-reads μs c r z p l s =
       reads-alone (now (c .0)) (now (c .1 .0)) (now (c .1 .1 .0)) (there-good (now (c .1 .0)) (now (c .1 .1 .0)) l s) (there-is (now (c .1 .0)) (now (c .1 .1 .0)) l s)
-      (there-fits (now (c .1 .0)) (now (c .1 .1 .0)) l s) (c .1 .1 .1 .0) (now (c .1 .1 .1 .1 .0)) (says r (now (z .1 .1 .1 .1 .0))) (p .1 .0)
+      (there-fits (now (c .1 .0)) (now (c .1 .1 .0)) l s) (c .1 .1 .1 .0) (c .1 .1 .1 .1 .0) (now (c .1 .1 .1 .1 .1 .0)) (says r (now (z .1 .1 .1 .1 .1 .0))) (p .1 .0)

@@ -25,7 +25,7 @@ use Rattle.expressions.specs.Sheet.{EndIn, endFor, sheetOf}
 use Rattle.expressions.proofs.Greatest.{Greatest, greatest-one}
 use Rattle.expressions.proofs.Entries.{end-is, end-span, end-back}
 use Rattle.readings.specs.Tree.{Tree}
-use Rattle.readings.specs.Scene.{Scene, walkerAt, sceneOf}
+use Rattle.readings.specs.Scene.{Scene, walkerAt, sceneOf, based}
 use Rattle.readings.specs.Reading.{Reading}
 use Rattle.line_readings.specs.LineReading.{endWithin, lineScene, LineReading}
 
@@ -61,6 +61,7 @@ pub same-scene : (t line : List ℕ) → length line ≤ 120 → sceneOf t line 
 unfolding sceneOf lineScene
 same-scene t line short = λ i. record {
   line = line;
+  base = 0;
   tops = keepIf (isTop t) (range 0 (rulesetsIn t));
   rules = λ r. range 0 (length (rulesetOf t r .rules));
   parts = λ r k. getD (rulesetOf t r .rules) k [];
@@ -70,7 +71,7 @@ same-scene t line short = λ i. record {
   cut = λ x l c. cut line x (walkerAt line l c);
 }
 
--- and a reading on the filled sheet is a reading of the line
-pub line-reading : (t line : List ℕ) → length line ≤ 120 → (u : Tree) → Reading (sceneOf t line (sheetOf line)) u ↔ LineReading t line u
-line-reading t line short u =
-    (subst (λ (s : Scene). Reading s u) (same-scene t line short), subst (λ (s : Scene). Reading s u) (sym (same-scene t line short)))
+-- and a reading on the filled sheet is a reading of the line, wherever it begins
+pub line-reading : (t line : List ℕ) → length line ≤ 120 → (base : ℕ) (u : Tree) → Reading (based base (sceneOf t line (sheetOf line))) u ↔ LineReading t line base u
+line-reading t line short base u =
+    (subst (λ (s : Scene). Reading (based base s) u) (same-scene t line short), subst (λ (s : Scene). Reading (based base s) u) (sym (same-scene t line short)))

@@ -15,17 +15,18 @@ use Rattle.extents.specs.declared.Half.{Half}
 use Rattle.extents.specs.declared.Half.the-variants.{Free, Greedy}
 use Rattle.expressions.specs.Sheet.{endFor}
 use Rattle.readings.specs.Tree.{Tree}
-use Rattle.readings.specs.Scene.{Scene, walkerAt}
+use Rattle.readings.specs.Scene.{Scene, walkerAt, based}
 use Rattle.readings.specs.Reading.{Reading}
 
 -- the end that the grammar gives, under a limit in the line
 unfoldable pub endWithin : List ℕ → Half → ℕ → ℕ → Option ℕ
 endWithin line half c l = select (leb l (length line)) (endFor line half c l) none
 
--- the scene of a packed table and a line
+-- the scene of a packed table and a line that stands alone, at base 0
 unfoldable pub lineScene : List ℕ → List ℕ → Scene
 lineScene t line = record {
   line = line;
+  base = 0;
   tops = keepIf (isTop t) (range 0 (rulesetsIn t));
   rules = λ r. range 0 (length (rulesetOf t r .rules));
   parts = λ r k. getD (rulesetOf t r .rules) k [];
@@ -35,6 +36,6 @@ lineScene t line = record {
   cut = λ x l c. cut line x (walkerAt line l c);
 }
 
--- a reading of a line under a table
-abbrev pub LineReading : List ℕ → List ℕ → Tree → Type 0
-LineReading t line u = Reading (lineScene t line) u
+-- a reading of a line under a table, where the line begins at a base
+abbrev pub LineReading : List ℕ → List ℕ → ℕ → Tree → Type 0
+LineReading t line base u = Reading (based base (lineScene t line)) u

@@ -95,14 +95,14 @@ abbrev sizeIn : Ends → ℕ
 sizeIn (Good n) = n
 sizeIn Bad = 0
 
-module _ (text : ℕ) (ends : List ℕ) (sheets budgets rows : ℕ) where
-  pub too-many : 256 < length ends → false ≡ programFits text ends sheets budgets rows
+module _ (text : ℕ) (ends : List ℕ) (sheets budgets bases rows : ℕ) where
+  pub too-many : 256 < length ends → false ≡ programFits text ends sheets budgets bases rows
   unfolding programFits
   too-many h = and-off _ (lt-leb (length ends) 256 h)
 
   module _ (few : length ends ≤ 256) where
-    after-count : {b : Bool} → b ≡ (endsFit 0 ends text && (eqb sheets (sheetsSize 0 ends) && (eqb budgets (length ends) && eqb rows (2 * length ends))))
-        → b ≡ programFits text ends sheets budgets rows
+    after-count : {b : Bool} → b ≡ (endsFit 0 ends text && (eqb sheets (sheetsSize 0 ends) && (eqb budgets (length ends) && (eqb bases (length ends) && eqb rows (2 * length ends)))))
+        → b ≡ programFits text ends sheets budgets bases rows
     unfolding programFits
     after-count e = and-on (le-leb (length ends) 256 few) e
 
@@ -114,7 +114,7 @@ module _ (text : ℕ) (ends : List ℕ) (sheets budgets rows : ℕ) where
         go true q = absurd (not-both refl (sym (ap isGood q)))
         go false q = refl
 
-    pub ends-bad : (found : Ends) → found ≡ endsOf text ends → found ≡ Bad → false ≡ programFits text ends sheets budgets rows
+    pub ends-bad : (found : Ends) → found ≡ endsOf text ends → found ≡ Bad → false ≡ programFits text ends sheets budgets bases rows
     ends-bad found e q = after-count (and-off _ (bad-not-fit (sym q ∙ e)))
 
     good-fit : (size : ℕ) → Good size ≡ endsOf text ends → (endsFit 0 ends text ≡ true) × (size ≡ sheetsSize 0 ends)
@@ -126,40 +126,50 @@ module _ (text : ℕ) (ends : List ℕ) (sheets budgets rows : ℕ) where
         go false q = absurd (not-both refl (ap isGood q))
 
     module _ (found : Ends) (e : found ≡ endsOf text ends) (size : ℕ) (q : found ≡ Good size) where
-      pub sheets-bad : (sheets ≡ size → ⊥) → false ≡ programFits text ends sheets budgets rows
+      pub sheets-bad : (sheets ≡ size → ⊥) → false ≡ programFits text ends sheets budgets bases rows
       sheets-bad ne =
           let (fit, is) = good-fit size (sym q ∙ e) in
           after-count (and-on fit (and-off _ (ne-eqb sheets (sheetsSize 0 ends) (λ r. ne (r ∙ sym is)))))
 
       module _ (right : sheets ≡ size) where
-        pub budgets-bad : (budgets ≡ length ends → ⊥) → false ≡ programFits text ends sheets budgets rows
+        pub budgets-bad : (budgets ≡ length ends → ⊥) → false ≡ programFits text ends sheets budgets bases rows
         budgets-bad ne =
             let (fit, is) = good-fit size (sym q ∙ e) in
             after-count (and-on fit (and-on (eq-eqb sheets (sheetsSize 0 ends) (right ∙ is)) (and-off _ (ne-eqb budgets (length ends) ne))))
 
-        pub rows-told : budgets ≡ length ends → {b : Bool} → b ≡ eqb rows (2 * length ends) → b ≡ programFits text ends sheets budgets rows
-        rows-told same r =
-            let (fit, is) = good-fit size (sym q ∙ e) in
-            after-count (and-on fit (and-on (eq-eqb sheets (sheetsSize 0 ends) (right ∙ is)) (and-on (eq-eqb budgets (length ends) same) r)))
+        module _ (same : budgets ≡ length ends) where
+          after-budgets : {b : Bool} → b ≡ (eqb bases (length ends) && eqb rows (2 * length ends)) → b ≡ programFits text ends sheets budgets bases rows
+          after-budgets r =
+              let (fit, is) = good-fit size (sym q ∙ e) in
+              after-count (and-on fit (and-on (eq-eqb sheets (sheetsSize 0 ends) (right ∙ is)) (and-on (eq-eqb budgets (length ends) same) r)))
+
+          pub bases-bad : (bases ≡ length ends → ⊥) → false ≡ programFits text ends sheets budgets bases rows
+          bases-bad ne = after-budgets (and-off _ (ne-eqb bases (length ends) ne))
+
+          pub rows-told : bases ≡ length ends → {b : Bool} → b ≡ eqb rows (2 * length ends) → b ≡ programFits text ends sheets budgets bases rows
+          rows-told one r = after-budgets (and-on (eq-eqb bases (length ends) one) r)
 
 -- what a program that fits has been lent
-pub record Fitting (text : ℕ) (ends : List ℕ) (sheets budgets rows : ℕ) : Type 0 where
+pub record Fitting (text : ℕ) (ends : List ℕ) (sheets budgets bases rows : ℕ) : Type 0 where
   pub few : length ends ≤ 256
   pub fit : endsFit 0 ends text ≡ true
   pub size : sheets ≡ sheetsSize 0 ends
   pub one-each : budgets ≡ length ends
+  pub base-each : bases ≡ length ends
   pub two-each : rows ≡ 2 * length ends
 
-pub fitting : (text : ℕ) (ends : List ℕ) (sheets budgets rows : ℕ) → programFits text ends sheets budgets rows ≡ true → Fitting text ends sheets budgets rows
+pub fitting : (text : ℕ) (ends : List ℕ) (sheets budgets bases rows : ℕ) → programFits text ends sheets budgets bases rows ≡ true → Fitting text ends sheets budgets bases rows
 unfolding programFits
-fitting text ends sheets budgets rows e =
+fitting text ends sheets budgets bases rows e =
     let a = and-right (leb (length ends) 256) _ e in
     let b = and-right (endsFit 0 ends text) _ a in
     let c = and-right (eqb sheets (sheetsSize 0 ends)) _ b in
+    let d = and-right (eqb budgets (length ends)) _ c in
     record {
       few = leb-true (length ends) 256 (and-left (leb (length ends) 256) _ e);
       fit = and-left (endsFit 0 ends text) _ a;
       size = eqb-true sheets (sheetsSize 0 ends) (and-left (eqb sheets (sheetsSize 0 ends)) _ b);
-      one-each = eqb-true budgets (length ends) (and-left (eqb budgets (length ends)) (eqb rows (2 * length ends)) c);
-      two-each = eqb-true rows (2 * length ends) (and-right (eqb budgets (length ends)) (eqb rows (2 * length ends)) c);
+      one-each = eqb-true budgets (length ends) (and-left (eqb budgets (length ends)) _ c);
+      base-each = eqb-true bases (length ends) (and-left (eqb bases (length ends)) (eqb rows (2 * length ends)) d);
+      two-each = eqb-true rows (2 * length ends) (and-right (eqb bases (length ends)) (eqb rows (2 * length ends)) d);
     }

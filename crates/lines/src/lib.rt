@@ -1,5 +1,5 @@
 // What is lent for a program's lines, judged before any line is read: how many lines there are, where they end in the text,
-// and whether sheets, budgets and rows have the right lengths. Number 17 is for what does not fit. The Rust has no such call.
+// and whether sheets, budgets, bases and rows have the right lengths. Number 17 is for what does not fit. The Rust has no such call.
 ghost use mathlib.Core.Path.{_≡_};
 ghost use Prim.Native.Nat.{_≤_};
 ghost use lib.ListN.{length};
@@ -51,8 +51,15 @@ fn measure(text: usize, ends: &[u32]) -> Ends
 }
 
 // Whether a program's parts fit one another: all that is lent for its lines but their own bytes, by its lengths.
-pub fn check_program(text: usize, ends: &[u32], sheets: usize, budgets: usize, rows: usize) -> bool
-    ensures answers { λ r. ⌜ r ≡ programFits text (now (ends .entry)) sheets budgets rows ⌝ }
+pub fn check_program(
+    text: usize,
+    ends: &[u32],
+    sheets: usize,
+    budgets: usize,
+    bases: usize,
+    rows: usize,
+) -> bool
+    ensures answers { λ r. ⌜ r ≡ programFits text (now (ends .entry)) sheets budgets bases rows ⌝ }
 {
     if MOST_LINES < ends.len() {
         return false;
@@ -65,6 +72,9 @@ pub fn check_program(text: usize, ends: &[u32], sheets: usize, budgets: usize, r
                 return false;
             }
             if budgets != ends.len() {
+                return false;
+            }
+            if bases != ends.len() {
                 return false;
             }
             rows == 2 * ends.len()

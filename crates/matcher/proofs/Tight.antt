@@ -10,9 +10,9 @@ use Rattle.trials.proofs.Tight.{same-answer}
 use Rattle.matcher.proofs.match_instr.Reads as match-instr
 use Rattle.matcher.proofs.match_with_ruledef_map.Reads as match-with-ruledef-map
 
-pub match-instr-tight : (κs a : _) (r s : Answer) (x y : _) → match-instr.Post κs a r x → match-instr.Post κs a s y → (r ≡ s) × (now (x .1 .1 .1 .1 .0) ≡ now (y .1 .1 .1 .1 .0))
+pub match-instr-tight : (κs a : _) (r s : Answer) (x y : _) → match-instr.Post κs a r x → match-instr.Post κs a s y → (r ≡ s) × (now (x .1 .1 .1 .1 .1 .0) ≡ now (y .1 .1 .1 .1 .1 .0))
 match-instr-tight κs a r s x y p q = same-answer r s _ _ (one-answer (p .0) (q .0))
 
 pub match-with-ruledef-map-tight : (κs a : _) (r s : Answer) (x y : _) → match-with-ruledef-map.Post κs a r x → match-with-ruledef-map.Post κs a s y
-    → (r ≡ s) × (now (x .1 .1 .1 .1 .0) ≡ now (y .1 .1 .1 .1 .0))
+    → (r ≡ s) × (now (x .1 .1 .1 .1 .1 .0) ≡ now (y .1 .1 .1 .1 .1 .0))
 match-with-ruledef-map-tight κs a r s x y p q = same-answer r s _ _ (one-answer (p .0) (q .0))

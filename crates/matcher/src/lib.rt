@@ -1,7 +1,8 @@
 // The matcher: which readings a line has under a rule table, the full scan and prefix lookup. From
-// `src/asm/matcher/mod.rs`, `match_instr` and `match_with_ruledef_map`. Any slices and any budget are taken, and bad ones
-// refused: table, line, sheet, budget (2 to 5); then the walk's budget, depth and pool (6, 7, 8); no match (1); an answer
-// longer than the buffer (9). A refusal leaves the buffer unchanged.
+// `src/asm/matcher/mod.rs`, `match_instr` and `match_with_ruledef_map`. Any slices, any budget and any base are taken, and bad
+// ones refused: table, line, sheet, budget (2 to 5), base (19); then the walk's budget, depth and pool (6, 7, 8); no match (1);
+// an answer longer than the buffer (9). A refusal leaves the buffer unchanged. The base is where the line begins in its file:
+// each start and end in the answer is base plus offset.
 use defs::ruledef;
 use pool::Pool;
 use trials::Answer;
@@ -12,7 +13,7 @@ ghost use mathlib.Core.Bool.{true};
 ghost use Prim.Native.Nat.{_≤_};
 ghost use lib.ListN.{length, take};
 ghost use Rattle.defs.specs.Table.{tableFits};
-ghost use Rattle.readings.specs.Scene.{sceneOf};
+ghost use Rattle.readings.specs.Scene.{sceneOf, based};
 ghost use Rattle.readings.specs.Call.{Accepted, scanCall, lookupCall, callWith};
 ghost use Rattle.readings.specs.Demand.{Within, Demand3};
 ghost use Rattle.trials.specs.Told.{says};
@@ -40,15 +41,16 @@ fn call(
     line: &[u8],
     sheet: &[u8],
     budget: u32,
+    base: u32,
     order: Order,
-    answer: &mut [u16],
+    answer: &mut [u32],
 ) -> Answer
-    ensures { λ r. ⌜ says r (now (answer .exit)) ≡ callWith (orderOf order) (now (table .entry)) (now (line .entry)) (now (sheet .entry)) budget (now (answer .entry)) ⌝ }
+    ensures { λ r. ⌜ says r (now (answer .exit)) ≡ callWith (orderOf order) (now (table .entry)) (now (line .entry)) (now (sheet .entry)) budget base (now (answer .entry)) ⌝ }
 {
     if !acceptance::check_table(table) {
         return Answer::BadTable;
     }
-    let checked = trials::check(line, sheet, budget);
+    let checked = trials::check(line, sheet, budget, base);
     match checked {
         Checked::Bad(refused) => {
             return refused;
@@ -66,6 +68,7 @@ fn call(
         line,
         sheet,
         budget,
+        base,
         &starts,
         &places,
         &rules,
@@ -81,12 +84,13 @@ pub fn match_instr(
     line: &[u8],
     sheet: &[u8],
     budget: u32,
-    answer: &mut [u16],
+    base: u32,
+    answer: &mut [u32],
 ) -> Answer
-    ensures answers { λ r. ⌜ says r (now (answer .exit)) ≡ scanCall (now (table .entry)) (now (line .entry)) (now (sheet .entry)) budget (now (answer .entry)) ⌝ }
-    ensures readings { λ r. ⌜ (Accepted (now (table .entry)) (now (line .entry)) (now (sheet .entry)) budget → Within (now (table .entry)) (now (line .entry)) (now (sheet .entry)) budget → Demand3 (sceneOf (now (table .entry)) (now (line .entry)) (now (sheet .entry))) (now (answer .entry)) (says r (now (answer .exit)))) ⌝ }
+    ensures answers { λ r. ⌜ says r (now (answer .exit)) ≡ scanCall (now (table .entry)) (now (line .entry)) (now (sheet .entry)) budget base (now (answer .entry)) ⌝ }
+    ensures readings { λ r. ⌜ (Accepted (now (table .entry)) (now (line .entry)) (now (sheet .entry)) budget base → Within (now (table .entry)) (now (line .entry)) (now (sheet .entry)) budget → Demand3 (based base (sceneOf (now (table .entry)) (now (line .entry)) (now (sheet .entry)))) (now (answer .entry)) (says r (now (answer .exit)))) ⌝ }
 {
-    call(table, line, sheet, budget, Order::Scan, answer)
+    call(table, line, sheet, budget, base, Order::Scan, answer)
 }
 
 // Prefix lookup: the same readings, number and words, and no more visits than the full scan's.
@@ -95,12 +99,13 @@ pub fn match_with_ruledef_map(
     line: &[u8],
     sheet: &[u8],
     budget: u32,
-    answer: &mut [u16],
+    base: u32,
+    answer: &mut [u32],
 ) -> Answer
-    ensures answers { λ r. ⌜ says r (now (answer .exit)) ≡ lookupCall (now (table .entry)) (now (line .entry)) (now (sheet .entry)) budget (now (answer .entry)) ⌝ }
-    ensures readings { λ r. ⌜ (Accepted (now (table .entry)) (now (line .entry)) (now (sheet .entry)) budget → Within (now (table .entry)) (now (line .entry)) (now (sheet .entry)) budget → Demand3 (sceneOf (now (table .entry)) (now (line .entry)) (now (sheet .entry))) (now (answer .entry)) (says r (now (answer .exit)))) ⌝ }
-    ensures visits { λ r. ⌜ (Accepted (now (table .entry)) (now (line .entry)) (now (sheet .entry)) budget → Within (now (table .entry)) (now (line .entry)) (now (sheet .entry)) budget → says r (now (answer .exit)) .visits ≤ scanCall (now (table .entry)) (now (line .entry)) (now (sheet .entry)) budget (now (answer .entry)) .visits) ⌝ }
-    ensures agrees { λ r. ⌜ (Accepted (now (table .entry)) (now (line .entry)) (now (sheet .entry)) budget → Within (now (table .entry)) (now (line .entry)) (now (sheet .entry)) budget → (says r (now (answer .exit)) .number ≡ scanCall (now (table .entry)) (now (line .entry)) (now (sheet .entry)) budget (now (answer .entry)) .number) × (says r (now (answer .exit)) .words ≡ scanCall (now (table .entry)) (now (line .entry)) (now (sheet .entry)) budget (now (answer .entry)) .words)) ⌝ }
+    ensures answers { λ r. ⌜ says r (now (answer .exit)) ≡ lookupCall (now (table .entry)) (now (line .entry)) (now (sheet .entry)) budget base (now (answer .entry)) ⌝ }
+    ensures readings { λ r. ⌜ (Accepted (now (table .entry)) (now (line .entry)) (now (sheet .entry)) budget base → Within (now (table .entry)) (now (line .entry)) (now (sheet .entry)) budget → Demand3 (based base (sceneOf (now (table .entry)) (now (line .entry)) (now (sheet .entry)))) (now (answer .entry)) (says r (now (answer .exit)))) ⌝ }
+    ensures visits { λ r. ⌜ (Accepted (now (table .entry)) (now (line .entry)) (now (sheet .entry)) budget base → Within (now (table .entry)) (now (line .entry)) (now (sheet .entry)) budget → says r (now (answer .exit)) .visits ≤ scanCall (now (table .entry)) (now (line .entry)) (now (sheet .entry)) budget base (now (answer .entry)) .visits) ⌝ }
+    ensures agrees { λ r. ⌜ (Accepted (now (table .entry)) (now (line .entry)) (now (sheet .entry)) budget base → Within (now (table .entry)) (now (line .entry)) (now (sheet .entry)) budget → (says r (now (answer .exit)) .number ≡ scanCall (now (table .entry)) (now (line .entry)) (now (sheet .entry)) budget base (now (answer .entry)) .number) × (says r (now (answer .exit)) .words ≡ scanCall (now (table .entry)) (now (line .entry)) (now (sheet .entry)) budget base (now (answer .entry)) .words)) ⌝ }
 {
-    call(table, line, sheet, budget, Order::Lookup, answer)
+    call(table, line, sheet, budget, base, Order::Lookup, answer)
 }

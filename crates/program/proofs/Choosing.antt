@@ -42,9 +42,9 @@ chosen-top Lookup t line m = found-top t (linePrefix line) m
 
 -- ---- what reading the line asks
 
-module _ {how : Order} {t line sheet starts places order rules store : List ℕ} {tops count budget : ℕ}
-    (ready : Prepared t starts places) (lined : LineAccepted line sheet budget) (chosen : ChosenFor how t line order rules tops count) (sized : length store ≡ room) where
-  pub read-asked : ReadAsked t line sheet starts places store rules count budget
+module _ {how : Order} {t line sheet starts places order rules store : List ℕ} {tops count budget base : ℕ}
+    (ready : Prepared t starts places) (lined : LineAccepted line sheet budget base) (chosen : ChosenFor how t line order rules tops count) (sized : length store ≡ room) where
+  pub read-asked : ReadAsked t line sheet starts places store rules count budget base
   read-asked = let fits : count ≤ length rules = omega (arith, chosen .few, chosen .again .room) in record {
     table = ready .table;
     lined = lined;
@@ -55,7 +55,7 @@ module _ {how : Order} {t line sheet starts places order rules store : List ℕ}
           (ready .placed (getD (take count rules) j 0)
           (chosen-top how t line (subst (List·Memᴰ (getD (take count rules) j 0)) (chosen .rules-are) (member-at (take count rules) j (omega (arith, length-take-le count rules fits))))));
     };
-    chosen = chosen-by how t line sheet budget [] (ready .table) (take count rules) (chosen .rules-are);
+    chosen = chosen-by how t line sheet budget base [] (ready .table) (take count rules) (chosen .rules-are);
     sized = sized;
     fits = fits;
   }

@@ -10,17 +10,17 @@ use Rattle.runs.specs.Program.{ProgramTold, scanProgram, lookupProgram}
 use Rattle.runs.specs.Demand.{ReadProgram, AllWithin}
 use Rattle.runs.proofs.Agreed.{scan-program-reads, lookup-program-reads, programs-agree}
 
-module _ (t text ends sheets budgets rows answers : List ℕ) (r : ProgramTold) where
-  pub scan-reads : r ≡ scanProgram t text ends sheets budgets rows answers → tableFits t ≡ true
-      → programFits (length text) ends (length sheets) (length budgets) (length rows) ≡ true → ReadProgram t text ends sheets budgets answers r
-  scan-reads e ok fit = subst (ReadProgram t text ends sheets budgets answers) (sym e) (scan-program-reads t text ends sheets budgets rows answers ok fit)
+module _ (t text ends sheets budgets bases rows answers : List ℕ) (r : ProgramTold) where
+  pub scan-reads : r ≡ scanProgram t text ends sheets budgets bases rows answers → tableFits t ≡ true
+      → programFits (length text) ends (length sheets) (length budgets) (length bases) (length rows) ≡ true → ReadProgram t text ends sheets budgets bases answers r
+  scan-reads e ok fit = subst (ReadProgram t text ends sheets budgets bases answers) (sym e) (scan-program-reads t text ends sheets budgets bases rows answers ok fit)
 
-  module _ (e : r ≡ lookupProgram t text ends sheets budgets rows answers) where
-    pub lookup-reads : tableFits t ≡ true → programFits (length text) ends (length sheets) (length budgets) (length rows) ≡ true → ReadProgram t text ends sheets budgets answers r
-    lookup-reads ok fit = subst (ReadProgram t text ends sheets budgets answers) (sym e) (lookup-program-reads t text ends sheets budgets rows answers ok fit)
+  module _ (e : r ≡ lookupProgram t text ends sheets budgets bases rows answers) where
+    pub lookup-reads : tableFits t ≡ true → programFits (length text) ends (length sheets) (length budgets) (length bases) (length rows) ≡ true → ReadProgram t text ends sheets budgets bases answers r
+    lookup-reads ok fit = subst (ReadProgram t text ends sheets budgets bases answers) (sym e) (lookup-program-reads t text ends sheets budgets bases rows answers ok fit)
 
-    pub lookup-agrees : AllWithin t (linesOf text ends sheets budgets)
-        → (r .rows ≡ scanProgram t text ends sheets budgets rows answers .rows) × (r .told .words ≡ scanProgram t text ends sheets budgets rows answers .told .words)
+    pub lookup-agrees : AllWithin t (linesOf text ends sheets budgets bases)
+        → (r .rows ≡ scanProgram t text ends sheets budgets bases rows answers .rows) × (r .told .words ≡ scanProgram t text ends sheets budgets bases rows answers .told .words)
     lookup-agrees all =
-        let (p, q) = programs-agree t text ends sheets budgets rows answers all in
+        let (p, q) = programs-agree t text ends sheets budgets bases rows answers all in
         (ap (λ (x : ProgramTold). x .rows) e ∙ p, ap (λ (x : ProgramTold). x .told .words) e ∙ q)

@@ -1,5 +1,5 @@
 -- The lines, one after another: at each turn what was done, followed by what is left to do, is what the whole program does. A
--- line's part of text, sheets and budgets is the first of what is left of them; its answer stands in the room left, behind the
+-- line's part of text, sheets, budgets and bases is the first of what is left of them; its answer stands in the room left, behind the
 -- words used before it.
 use mathlib.Core.Path.{_≡_, refl, sym, ap, ap₂, subst, _∙_}
 use mathlib.Core.Bool.{Bool, true, false, _&&_}
@@ -61,7 +61,7 @@ part-is a e l h = let whole : a + (e - a) ≡ e = omega arith in take-of-drop a 
 abbrev pub behind : List ℕ → List ℕ → Ran → Ran
 behind rows answers ran = record { rows = rows ++ ran .rows; words = ran .words; answers = answers ++ ran .answers }
 
-module _ (call : Line → List ℕ → Told) (text ends sheets budgets : List ℕ) where
+module _ (call : Line → List ℕ → Told) (text ends sheets budgets bases : List ℕ) where
   -- the loop stands before line i, which begins at `from`; its sheet stands at `sheet`; so many words are used
   pub record Running (answers₀ : List ℕ) (from sheet used i : ℕ) (rows answers : List ℕ) : Type 0 where
     pub within : i ≤ length ends
@@ -69,8 +69,8 @@ module _ (call : Line → List ℕ → Told) (text ends sheets budgets : List �
     pub size : length sheets ≡ sheet + sheetsSize from (drop i ends)
     pub few : used ≤ 12589058 * i
     pub room : used ≤ length answers
-    pub whole : runLines call (linesOf text ends sheets budgets) 0 answers₀
-        ≡ behind (take (2 * i) rows) (take used answers) (runLines call (linesFrom from text (drop i ends) (drop sheet sheets) (drop i budgets)) used (drop used answers))
+    pub whole : runLines call (linesOf text ends sheets budgets bases) 0 answers₀
+        ≡ behind (take (2 * i) rows) (take used answers) (runLines call (linesFrom from text (drop i ends) (drop sheet sheets) (drop i budgets) (drop i bases)) used (drop used answers))
 
   pub running-none : (rows answers : List ℕ) → endsFit 0 ends (length text) ≡ true → length sheets ≡ sheetsSize 0 ends → Running answers 0 0 0 0 rows answers
   running-none rows answers fit size = record {
@@ -107,23 +107,25 @@ module _ (call : Line → List ℕ → Told) (text ends sheets budgets : List �
 
         -- the line, as it is lent, is the first that is left
         abbrev pub lineHere : Line
-        lineHere = record { bytes = slice from end text; sheet = slice sheet (sheet + size) sheets; budget = getD budgets i 0 }
+        lineHere = record { bytes = slice from end text; sheet = slice sheet (sheet + size) sheets; budget = getD budgets i 0; base = getD bases i 0 }
 
-        line-is : linesFrom from text (drop i ends) (drop sheet sheets) (drop i budgets)
-            ≡ lineHere ∷ linesFrom end text (drop (i + 1) ends) (drop (sheet + size) sheets) (drop (i + 1) budgets)
+        line-is : linesFrom from text (drop i ends) (drop sheet sheets) (drop i budgets) (drop i bases)
+            ≡ lineHere ∷ linesFrom end text (drop (i + 1) ends) (drop (sheet + size) sheets) (drop (i + 1) budgets) (drop (i + 1) bases)
         unfolding linesFrom
-        line-is = ap (λ (es : List ℕ). linesFrom from text es (drop sheet sheets) (drop i budgets)) next ∙ λ k. here k ∷ rest k
+        line-is = ap (λ (es : List ℕ). linesFrom from text es (drop sheet sheets) (drop i budgets) (drop i bases)) next ∙ λ k. here k ∷ rest k
           where
             sheet-is : take (sheetSize (end - from)) (drop sheet sheets) ≡ slice sheet (sheet + size) sheets
             sheet-is = ap (λ (n : ℕ). take n (drop sheet sheets)) (sym size-is) ∙ take-of-drop sheet size sheets
 
-            here : record { bytes = slice from end text; sheet = take (sheetSize (end - from)) (drop sheet sheets); budget = getD (drop i budgets) 0 0 } ≡ lineHere
-            here = λ k. record { bytes = slice from end text; sheet = sheet-is k; budget = getD-of-drop i budgets k }
+            here : record { bytes = slice from end text; sheet = take (sheetSize (end - from)) (drop sheet sheets); budget = getD (drop i budgets) 0 0; base = getD (drop i bases) 0 0 } ≡ lineHere
+            here = λ k. record { bytes = slice from end text; sheet = sheet-is k; budget = getD-of-drop i budgets k; base = getD-of-drop i bases k }
 
-            rest : linesFrom end text (drop (i + 1) ends) (drop (sheetSize (end - from)) (drop sheet sheets)) (drop 1 (drop i budgets))
-                ≡ linesFrom end text (drop (i + 1) ends) (drop (sheet + size) sheets) (drop (i + 1) budgets)
-            rest = ap₂ (linesFrom end text (drop (i + 1) ends))
-                (drop-drop (sheetSize (end - from)) sheet sheets ∙ ap (λ (n : ℕ). drop (sheet + n) sheets) (sym size-is)) (drop-drop 1 i budgets)
+            sheets-rest : drop (sheetSize (end - from)) (drop sheet sheets) ≡ drop (sheet + size) sheets
+            sheets-rest = drop-drop (sheetSize (end - from)) sheet sheets ∙ ap (λ (n : ℕ). drop (sheet + n) sheets) (sym size-is)
+
+            rest : linesFrom end text (drop (i + 1) ends) (drop (sheetSize (end - from)) (drop sheet sheets)) (drop 1 (drop i budgets)) (drop 1 (drop i bases))
+                ≡ linesFrom end text (drop (i + 1) ends) (drop (sheet + size) sheets) (drop (i + 1) budgets) (drop (i + 1) bases)
+            rest = λ k. linesFrom end text (drop (i + 1) ends) (sheets-rest k) (drop-drop 1 i budgets k) (drop-drop 1 i bases k)
 
         -- ---- the line told
 
@@ -175,7 +177,7 @@ module _ (call : Line → List ℕ → Told) (text ends sheets budgets : List �
                       ∙ ap₂ (λ (a : List ℕ) (x : ℕ). a ++ (x ∷ [])) before here
 
               abbrev rest : List Line
-              rest = linesFrom end text (drop (i + 1) ends) (drop (sheet + size) sheets) (drop (i + 1) budgets)
+              rest = linesFrom end text (drop (i + 1) ends) (drop (sheet + size) sheets) (drop (i + 1) budgets) (drop (i + 1) bases)
 
               -- the line here
               abbrev r : Told
@@ -215,12 +217,12 @@ module _ (call : Line → List ℕ → Told) (text ends sheets budgets : List �
 
     -- after the last line nothing is left
     pub running-all : length ends ≤ i → length rows ≡ 2 * length ends
-        → record { rows = rows; words = used; answers = answers } ≡ runLines call (linesOf text ends sheets budgets) 0 answers₀
+        → record { rows = rows; words = used; answers = answers } ≡ runLines call (linesOf text ends sheets budgets bases) 0 answers₀
     unfolding linesFrom runLines
     running-all h long =
         sym
         (run .whole
-        ∙ ap (λ (es : List ℕ). behind (take (2 * i) rows) (take used answers) (runLines call (linesFrom from text es (drop sheet sheets) (drop i budgets)) used (drop used answers))) (drop-of-length-le ends h)
+        ∙ ap (λ (es : List ℕ). behind (take (2 * i) rows) (take used answers) (runLines call (linesFrom from text es (drop sheet sheets) (drop i budgets) (drop i bases)) used (drop used answers))) (drop-of-length-le ends h)
         ∙ λ k. record { rows = all-rows k; words = used; answers = take-append-drop used answers k })
       where
         all-rows : take (2 * i) rows ++ [] ≡ rows
@@ -229,32 +231,34 @@ module _ (call : Line → List ℕ → Told) (text ends sheets budgets : List �
 -- ---- the loop as the code has it
 
 -- what a turn begins with: the lines so far, what was prepared, and the lengths of store and rows
-pub record Turn (how : Order) (t text ends sheets budgets order answers₀ : List ℕ) (tops from sheet used i : ℕ) (rules store rows answers : List ℕ) : Type 0 where
-  pub running : Running (lineCall (orderOf how) t) text ends sheets budgets answers₀ from sheet used i rows answers
+pub record Turn (how : Order) (t text ends sheets budgets bases order answers₀ : List ℕ) (tops from sheet used i : ℕ) (rules store rows answers : List ℕ) : Type 0 where
+  pub running : Running (lineCall (orderOf how) t) text ends sheets budgets bases answers₀ from sheet used i rows answers
   pub ordered : Ordered how t order rules tops
   pub stored : length store ≡ room
   pub long : length rows ≡ 2 * length ends
   pub lent : length budgets ≡ length ends
+  pub placed : length bases ≡ length ends
   pub few : length ends ≤ 256
   pub whole : length answers ≡ length answers₀
 
-module _ {how : Order} {t text ends sheets budgets order answers : List ℕ} {tops : ℕ} {rules store rows : List ℕ} where
-  pub turn-first : programFits (length text) ends (length sheets) (length budgets) (length rows) ≡ true → Ordered how t order rules tops → length store ≡ room
-      → Turn how t text ends sheets budgets order answers tops 0 0 0 0 rules store rows answers
+module _ {how : Order} {t text ends sheets budgets bases order answers : List ℕ} {tops : ℕ} {rules store rows : List ℕ} where
+  pub turn-first : programFits (length text) ends (length sheets) (length budgets) (length bases) (length rows) ≡ true → Ordered how t order rules tops → length store ≡ room
+      → Turn how t text ends sheets budgets bases order answers tops 0 0 0 0 rules store rows answers
   turn-first ok o e =
-      let l = fitting (length text) ends (length sheets) (length budgets) (length rows) ok in
+      let l = fitting (length text) ends (length sheets) (length budgets) (length bases) (length rows) ok in
       record {
-        running = running-none (lineCall (orderOf how) t) text ends sheets budgets rows answers (l .fit) (l .size);
+        running = running-none (lineCall (orderOf how) t) text ends sheets budgets bases rows answers (l .fit) (l .size);
         ordered = o;
         stored = e;
         long = l .two-each;
         lent = l .one-each;
+        placed = l .base-each;
         few = l .few;
         whole = refl;
       }
 
-module _ {how : Order} {t text ends sheets budgets order answers₀ : List ℕ} {tops from sheet used i : ℕ} {rules store rows answers : List ℕ}
-    (turn : Turn how t text ends sheets budgets order answers₀ tops from sheet used i rules store rows answers) (more : i < length ends) where
+module _ {how : Order} {t text ends sheets budgets bases order answers₀ : List ℕ} {tops from sheet used i : ℕ} {rules store rows answers : List ℕ}
+    (turn : Turn how t text ends sheets budgets bases order answers₀ tops from sheet used i rules store rows answers) (more : i < length ends) where
   -- a row's two places, and what it holds, are small: the words used before a line fit 32 bits
   pub row-within : 2 * i + 1 < length rows
   row-within = omega (arith, turn .long)
@@ -263,7 +267,7 @@ module _ {how : Order} {t text ends sheets budgets order answers₀ : List ℕ} 
   used-small = omega (arith, turn .running .few, turn .few)
 
   module _ (end : ℕ) (is : end ≡ getD ends i 0) (size : ℕ) (size-is : size ≡ sheetSize (end - from)) (got : Answer) (buffer : List ℕ)
-      (lent : says got buffer ≡ callWith (orderOf how) t (part from end text) (part sheet (sheet + size) sheets) (getD budgets i 0) (part used (length answers) answers)) (row : Row) (row-is : RowOf got row) where
+      (lent : says got buffer ≡ callWith (orderOf how) t (part from end text) (part sheet (sheet + size) sheets) (getD budgets i 0) (getD bases i 0) (part used (length answers) answers)) (row : Row) (row-is : RowOf got row) where
     abbrev line : List ℕ
     line = slice from end text
 
@@ -271,11 +275,11 @@ module _ {how : Order} {t text ends sheets budgets order answers₀ : List ℕ} 
     extents = slice sheet (sheet + size) sheets
 
     -- the parts lent are those of the definition
-    told : says got buffer ≡ callWith (orderOf how) t line extents (getD budgets i 0) (drop used answers)
-    told = lent ∙ λ k. callWith (orderOf how) t (bytes k) (sheets-are k) (getD budgets i 0) (room-is k)
+    told : says got buffer ≡ callWith (orderOf how) t line extents (getD budgets i 0) (getD bases i 0) (drop used answers)
+    told = lent ∙ λ k. callWith (orderOf how) t (bytes k) (sheets-are k) (getD budgets i 0) (getD bases i 0) (room-is k)
       where
         bytes : part from end text ≡ line
-        bytes = part-is from end text (ends-after (lineCall (orderOf how) t) text ends sheets budgets (turn .running) more end is)
+        bytes = part-is from end text (ends-after (lineCall (orderOf how) t) text ends sheets budgets bases (turn .running) more end is)
 
         sheets-are : part sheet (sheet + size) sheets ≡ extents
         sheets-are = part-is sheet (sheet + size) sheets (omega arith)
@@ -284,21 +288,22 @@ module _ {how : Order} {t text ends sheets budgets order answers₀ : List ℕ} 
         room-is = take-all (length answers - used) (drop used answers) (omega (arith, length-drop used answers))
 
     said-few : says got buffer .words ≤ 12589058
-    said-few = subst (λ (r : Told). r .words ≤ 12589058) (sym told) (call-few how t line extents (getD budgets i 0) (drop used answers))
+    said-few = subst (λ (r : Told). r .words ≤ 12589058) (sym told) (call-few how t line extents (getD budgets i 0) (getD bases i 0) (drop used answers))
 
     pub words-small : row .words ≤ 12589058
     words-small = subst (λ (n : ℕ). n ≤ 12589058) (sym (row-is .words buffer)) (taken-few (says got buffer) said-few)
 
     pub turn-more : (rules′ store′ answers′ : List ℕ) → Ordered how t order rules′ tops → length store′ ≡ length store → answers′ ≡ take used answers ++ (buffer ++ drop (length answers - used) (drop used answers))
-        → Turn how t text ends sheets budgets order answers₀ tops end (sheet + size) (used + row .words) (i + 1) rules′ store′ (set (set rows (2 * i) (row .number)) (2 * i + 1) used) answers′
+        → Turn how t text ends sheets budgets bases order answers₀ tops end (sheet + size) (used + row .words) (i + 1) rules′ store′ (set (set rows (2 * i) (row .number)) (2 * i + 1) used) answers′
     turn-more rules′ store′ answers′ o same e = record {
-      running = running-more (lineCall (orderOf how) t) text ends sheets budgets (turn .running) more end is size size-is
-          (call-shape (orderOf how) t line extents (getD budgets i 0)) got buffer told (row .number) (row .words) (row-is .number buffer) (row-is .words buffer)
+      running = running-more (lineCall (orderOf how) t) text ends sheets budgets bases (turn .running) more end is size size-is
+          (call-shape (orderOf how) t line extents (getD budgets i 0) (getD bases i 0)) got buffer told (row .number) (row .words) (row-is .number buffer) (row-is .words buffer)
           (set (set rows (2 * i) (row .number)) (2 * i + 1) used) answers′ refl behind-used row-within said-few;
       ordered = o;
       stored = same ∙ turn .stored;
       long = length-set (set rows (2 * i) (row .number)) (2 * i + 1) used ∙ length-set rows (2 * i) (row .number) ∙ turn .long;
       lent = turn .lent;
+      placed = turn .placed;
       few = turn .few;
       whole = omega (arith, turn .whole, turn .running .room, ap length behind-used ∙ length-append (take used answers) buffer, length-take-le used answers (turn .running .room), buffer-long, length-drop used answers);
     }
@@ -310,11 +315,11 @@ module _ {how : Order} {t text ends sheets budgets order answers₀ : List ℕ} 
         behind-used = e ∙ ap (λ (l : List ℕ). take used answers ++ l) (ap (λ (l : List ℕ). buffer ++ l) (drop-of-length-le (drop used answers) nothing-behind) ∙ append-nil buffer)
 
         buffer-long : length buffer ≡ length (drop used answers)
-        buffer-long = ap length (sym (buffer-of got buffer) ∙ ap (λ (r : Told). r .buffer) told) ∙ shape-keeps (call-shape (orderOf how) t line extents (getD budgets i 0)) (drop used answers) .long
+        buffer-long = ap length (sym (buffer-of got buffer) ∙ ap (λ (r : Told). r .buffer) told) ∙ shape-keeps (call-shape (orderOf how) t line extents (getD budgets i 0) (getD bases i 0)) (drop used answers) .long
 
-pub used-few : {how : Order} {t text ends sheets budgets order answers₀ : List ℕ} {tops from sheet used i : ℕ} {rules store rows answers : List ℕ}
-    → Turn how t text ends sheets budgets order answers₀ tops from sheet used i rules store rows answers → used ≤ 3222798848
+pub used-few : {how : Order} {t text ends sheets budgets bases order answers₀ : List ℕ} {tops from sheet used i : ℕ} {rules store rows answers : List ℕ}
+    → Turn how t text ends sheets budgets bases order answers₀ tops from sheet used i rules store rows answers → used ≤ 3222798848
 used-few turn = omega (arith, turn .running .few, turn .running .within, turn .few)
 
-pub rows-first : (text ends sheets budgets rows : List ℕ) → programFits (length text) ends (length sheets) (length budgets) (length rows) ≡ true → length rows ≡ 2 * length ends
-rows-first text ends sheets budgets rows ok = fitting (length text) ends (length sheets) (length budgets) (length rows) ok .two-each
+pub rows-first : (text ends sheets budgets bases rows : List ℕ) → programFits (length text) ends (length sheets) (length budgets) (length bases) (length rows) ≡ true → length rows ≡ 2 * length ends
+rows-first text ends sheets budgets bases rows ok = fitting (length text) ends (length sheets) (length budgets) (length bases) (length rows) ok .two-each

@@ -39,9 +39,9 @@ same-answer a c v w b d e = (
 )
 
 pub match-program-tight : (κs a : _) (r s : ProgramAnswer) (x y : _) → match-program.Post κs a r x → match-program.Post κs a s y
-    → (r ≡ s) × (now (x .1 .1 .1 .1 .1 .0) ≡ now (y .1 .1 .1 .1 .1 .0)) × (now (x .1 .1 .1 .1 .1 .1 .0) ≡ now (y .1 .1 .1 .1 .1 .1 .0))
+    → (r ≡ s) × (now (x .1 .1 .1 .1 .1 .1 .0) ≡ now (y .1 .1 .1 .1 .1 .1 .0)) × (now (x .1 .1 .1 .1 .1 .1 .1 .0) ≡ now (y .1 .1 .1 .1 .1 .1 .1 .0))
 match-program-tight κs a r s x y p q = same-answer r s _ _ _ _ (one-answer (p .0) (q .0))
 
 pub lookup-program-tight : (κs a : _) (r s : ProgramAnswer) (x y : _) → lookup-program.Post κs a r x → lookup-program.Post κs a s y
-    → (r ≡ s) × (now (x .1 .1 .1 .1 .1 .0) ≡ now (y .1 .1 .1 .1 .1 .0)) × (now (x .1 .1 .1 .1 .1 .1 .0) ≡ now (y .1 .1 .1 .1 .1 .1 .0))
+    → (r ≡ s) × (now (x .1 .1 .1 .1 .1 .1 .0) ≡ now (y .1 .1 .1 .1 .1 .1 .0)) × (now (x .1 .1 .1 .1 .1 .1 .1 .0) ≡ now (y .1 .1 .1 .1 .1 .1 .1 .0))
 lookup-program-tight κs a r s x y p q = same-answer r s _ _ _ _ (one-answer (p .0) (q .0))

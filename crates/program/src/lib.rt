@@ -1,7 +1,7 @@
 // A whole glyph program in one call, by full scan or by prefix lookup: the table is judged and prepared once, then each line is
 // read on the room that the lines before it left. The Rust reads lines one by one and has no such call. A bad table is refused
-// (2), then what is lent for the lines (17), before any line and with nothing written; a line's own refusal (1, 3 to 9) stands
-// in its row, takes no words and stops nothing.
+// (2), then what is lent for the lines (17), before any line and with nothing written; a line's own refusal (1, 3 to 9, 19)
+// stands in its row, takes no words and stops nothing.
 use defs::ruledef;
 use pool::Pool;
 use trials::Answer;
@@ -31,7 +31,7 @@ pub enum ProgramAnswer {
     Done { words: u32 },
     // 2
     BadTable,
-    // 17: too many lines, ends that fall or pass the text, or sheets, budgets or rows of the wrong length.
+    // 17: too many lines, ends that fall or pass the text, or sheets, budgets, bases or rows of the wrong length.
     BadProgram,
 }
 
@@ -54,6 +54,7 @@ fn row_of(answer: Answer) -> Row
         Answer::BadLine { place: _ } => refused(3),
         Answer::BadSheet => refused(4),
         Answer::BadBudget => refused(5),
+        Answer::BadBase => refused(19),
         Answer::Spent { visits: _ } => refused(6),
         Answer::TooDeep { visits: _ } => refused(7),
         Answer::PoolFull { visits: _ } => refused(8),
@@ -125,6 +126,7 @@ fn run_line(
     line: &[u8],
     sheet: &[u8],
     budget: u32,
+    base: u32,
     how: Order,
     starts: &[u16],
     places: &[u16],
@@ -132,14 +134,14 @@ fn run_line(
     tops: usize,
     rules: &mut [u16],
     store: &mut [usize],
-    answer: &mut [u16],
+    answer: &mut [u32],
 ) -> Answer
     requires { ⌜ Ready how (now table) (now starts) (now places) (now order) (now rules) tops ⌝ }
     requires { ⌜ length (now store) ≡ room ⌝ }
-    ensures tells { λ r. ⌜ says r (now (answer .exit)) ≡ callWith (orderOf how) (now (table .entry)) (now (line .entry)) (now (sheet .entry)) budget (now (answer .entry)) ⌝ }
+    ensures tells { λ r. ⌜ says r (now (answer .exit)) ≡ callWith (orderOf how) (now (table .entry)) (now (line .entry)) (now (sheet .entry)) budget base (now (answer .entry)) ⌝ }
     ensures keeps { λ _. ⌜ Ordered how (now (table .entry)) (now (order .entry)) (now (rules .exit)) tops ⌝ }
 {
-    let checked = trials::check(line, sheet, budget);
+    let checked = trials::check(line, sheet, budget, base);
     match checked {
         Checked::Bad(refused) => {
             return refused;
@@ -152,6 +154,7 @@ fn run_line(
         line,
         sheet,
         budget,
+        base,
         starts,
         places,
         rules,
@@ -168,6 +171,7 @@ fn run_lines(
     ends: &[u32],
     sheets: &[u8],
     budgets: &[u32],
+    bases: &[u32],
     how: Order,
     starts: &[u16],
     places: &[u16],
@@ -176,12 +180,12 @@ fn run_lines(
     rules: &mut [u16],
     store: &mut [usize],
     rows: &mut [u32],
-    answers: &mut [u16],
+    answers: &mut [u32],
 ) -> usize
     requires { ⌜ Ready how (now table) (now starts) (now places) (now order) (now rules) tops ⌝ }
     requires { ⌜ length (now store) ≡ room ⌝ }
-    requires { ⌜ programFits (length (now text)) (now ends) (length (now sheets)) (length (now budgets)) (length (now rows)) ≡ true ⌝ }
-    ensures runs { λ r. ⌜ record { rows = now (rows .exit); words = r; answers = now (answers .exit) } ≡ runLines (lineCall (orderOf how) (now (table .entry))) (linesOf (now (text .entry)) (now (ends .entry)) (now (sheets .entry)) (now (budgets .entry))) 0 (now (answers .entry)) ⌝ }
+    requires { ⌜ programFits (length (now text)) (now ends) (length (now sheets)) (length (now budgets)) (length (now bases)) (length (now rows)) ≡ true ⌝ }
+    ensures runs { λ r. ⌜ record { rows = now (rows .exit); words = r; answers = now (answers .exit) } ≡ runLines (lineCall (orderOf how) (now (table .entry))) (linesOf (now (text .entry)) (now (ends .entry)) (now (sheets .entry)) (now (budgets .entry)) (now (bases .entry))) 0 (now (answers .entry)) ⌝ }
     ensures few { λ r. ⌜ r ≤ 3222798848 ⌝ }
 {
     let mut from: usize = 0;
@@ -191,6 +195,7 @@ fn run_lines(
     while i < ends.len() {
         let end = ends[i] as usize;
         let budget = budgets[i];
+        let base = bases[i];
         let row = 2 * i;
         i += 1;
         let next = sheet + lines::sheet_size(end - from);
@@ -199,6 +204,7 @@ fn run_lines(
             &text[from..end],
             &sheets[sheet..next],
             budget,
+            base,
             how,
             starts,
             places,
@@ -227,16 +233,24 @@ fn run_program(
     ends: &[u32],
     sheets: &[u8],
     budgets: &[u32],
+    bases: &[u32],
     how: Order,
     rows: &mut [u32],
-    answers: &mut [u16],
+    answers: &mut [u32],
 ) -> ProgramAnswer
-    ensures { λ r. ⌜ programSays r (now (rows .exit)) (now (answers .exit)) ≡ programWith (orderOf how) (now (table .entry)) (now (text .entry)) (now (ends .entry)) (now (sheets .entry)) (now (budgets .entry)) (now (rows .entry)) (now (answers .entry)) ⌝ }
+    ensures { λ r. ⌜ programSays r (now (rows .exit)) (now (answers .exit)) ≡ programWith (orderOf how) (now (table .entry)) (now (text .entry)) (now (ends .entry)) (now (sheets .entry)) (now (budgets .entry)) (now (bases .entry)) (now (rows .entry)) (now (answers .entry)) ⌝ }
 {
     if !acceptance::check_table(table) {
         return ProgramAnswer::BadTable;
     }
-    if !lines::check_program(text.len(), ends, sheets.len(), budgets.len(), rows.len()) {
+    if !lines::check_program(
+        text.len(),
+        ends,
+        sheets.len(),
+        budgets.len(),
+        bases.len(),
+        rows.len(),
+    ) {
         return ProgramAnswer::BadProgram;
     }
     let starts = ruledef::ruleset_starts(table);
@@ -251,6 +265,7 @@ fn run_program(
         ends,
         sheets,
         budgets,
+        bases,
         how,
         &starts,
         &places,
@@ -273,11 +288,12 @@ pub fn match_program(
     ends: &[u32],
     sheets: &[u8],
     budgets: &[u32],
+    bases: &[u32],
     rows: &mut [u32],
-    answers: &mut [u16],
+    answers: &mut [u32],
 ) -> ProgramAnswer
-    ensures answers { λ r. ⌜ programSays r (now (rows .exit)) (now (answers .exit)) ≡ scanProgram (now (table .entry)) (now (text .entry)) (now (ends .entry)) (now (sheets .entry)) (now (budgets .entry)) (now (rows .entry)) (now (answers .entry)) ⌝ }
-    ensures readings { λ r. ⌜ (tableFits (now (table .entry)) ≡ true → programFits (length (now (text .entry))) (now (ends .entry)) (length (now (sheets .entry))) (length (now (budgets .entry))) (length (now (rows .entry))) ≡ true → ReadProgram (now (table .entry)) (now (text .entry)) (now (ends .entry)) (now (sheets .entry)) (now (budgets .entry)) (now (answers .entry)) (programSays r (now (rows .exit)) (now (answers .exit)))) ⌝ }
+    ensures answers { λ r. ⌜ programSays r (now (rows .exit)) (now (answers .exit)) ≡ scanProgram (now (table .entry)) (now (text .entry)) (now (ends .entry)) (now (sheets .entry)) (now (budgets .entry)) (now (bases .entry)) (now (rows .entry)) (now (answers .entry)) ⌝ }
+    ensures readings { λ r. ⌜ (tableFits (now (table .entry)) ≡ true → programFits (length (now (text .entry))) (now (ends .entry)) (length (now (sheets .entry))) (length (now (budgets .entry))) (length (now (bases .entry))) (length (now (rows .entry))) ≡ true → ReadProgram (now (table .entry)) (now (text .entry)) (now (ends .entry)) (now (sheets .entry)) (now (budgets .entry)) (now (bases .entry)) (now (answers .entry)) (programSays r (now (rows .exit)) (now (answers .exit)))) ⌝ }
 {
     run_program(
         table,
@@ -285,6 +301,7 @@ pub fn match_program(
         ends,
         sheets,
         budgets,
+        bases,
         Order::Scan,
         rows,
         answers,
@@ -298,12 +315,13 @@ pub fn lookup_program(
     ends: &[u32],
     sheets: &[u8],
     budgets: &[u32],
+    bases: &[u32],
     rows: &mut [u32],
-    answers: &mut [u16],
+    answers: &mut [u32],
 ) -> ProgramAnswer
-    ensures answers { λ r. ⌜ programSays r (now (rows .exit)) (now (answers .exit)) ≡ lookupProgram (now (table .entry)) (now (text .entry)) (now (ends .entry)) (now (sheets .entry)) (now (budgets .entry)) (now (rows .entry)) (now (answers .entry)) ⌝ }
-    ensures readings { λ r. ⌜ (tableFits (now (table .entry)) ≡ true → programFits (length (now (text .entry))) (now (ends .entry)) (length (now (sheets .entry))) (length (now (budgets .entry))) (length (now (rows .entry))) ≡ true → ReadProgram (now (table .entry)) (now (text .entry)) (now (ends .entry)) (now (sheets .entry)) (now (budgets .entry)) (now (answers .entry)) (programSays r (now (rows .exit)) (now (answers .exit)))) ⌝ }
-    ensures agrees { λ r. ⌜ (AllWithin (now (table .entry)) (linesOf (now (text .entry)) (now (ends .entry)) (now (sheets .entry)) (now (budgets .entry))) → (programSays r (now (rows .exit)) (now (answers .exit)) .rows ≡ scanProgram (now (table .entry)) (now (text .entry)) (now (ends .entry)) (now (sheets .entry)) (now (budgets .entry)) (now (rows .entry)) (now (answers .entry)) .rows) × (programSays r (now (rows .exit)) (now (answers .exit)) .told .words ≡ scanProgram (now (table .entry)) (now (text .entry)) (now (ends .entry)) (now (sheets .entry)) (now (budgets .entry)) (now (rows .entry)) (now (answers .entry)) .told .words)) ⌝ }
+    ensures answers { λ r. ⌜ programSays r (now (rows .exit)) (now (answers .exit)) ≡ lookupProgram (now (table .entry)) (now (text .entry)) (now (ends .entry)) (now (sheets .entry)) (now (budgets .entry)) (now (bases .entry)) (now (rows .entry)) (now (answers .entry)) ⌝ }
+    ensures readings { λ r. ⌜ (tableFits (now (table .entry)) ≡ true → programFits (length (now (text .entry))) (now (ends .entry)) (length (now (sheets .entry))) (length (now (budgets .entry))) (length (now (bases .entry))) (length (now (rows .entry))) ≡ true → ReadProgram (now (table .entry)) (now (text .entry)) (now (ends .entry)) (now (sheets .entry)) (now (budgets .entry)) (now (bases .entry)) (now (answers .entry)) (programSays r (now (rows .exit)) (now (answers .exit)))) ⌝ }
+    ensures agrees { λ r. ⌜ (AllWithin (now (table .entry)) (linesOf (now (text .entry)) (now (ends .entry)) (now (sheets .entry)) (now (budgets .entry)) (now (bases .entry))) → (programSays r (now (rows .exit)) (now (answers .exit)) .rows ≡ scanProgram (now (table .entry)) (now (text .entry)) (now (ends .entry)) (now (sheets .entry)) (now (budgets .entry)) (now (bases .entry)) (now (rows .entry)) (now (answers .entry)) .rows) × (programSays r (now (rows .exit)) (now (answers .exit)) .told .words ≡ scanProgram (now (table .entry)) (now (text .entry)) (now (ends .entry)) (now (sheets .entry)) (now (budgets .entry)) (now (bases .entry)) (now (rows .entry)) (now (answers .entry)) .told .words)) ⌝ }
 {
     run_program(
         table,
@@ -311,6 +329,7 @@ pub fn lookup_program(
         ends,
         sheets,
         budgets,
+        bases,
         Order::Lookup,
         rows,
         answers,

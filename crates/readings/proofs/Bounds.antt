@@ -1,4 +1,4 @@
--- What an answer can come to: every word of it fits 16 bits and its length 32, and where a scan is not refused no reading
+-- What an answer can come to: every word of it fits 32 bits and so does its length, and where a scan is not refused no reading
 -- is deeper than 16.
 use mathlib.Core.Path.{_≡_, refl, sym, _∙_, subst, ap}
 use mathlib.Core.Logic.{inl, inr}
@@ -10,7 +10,7 @@ use native.Mathlib.Decide.{decLe}
 use native.Mathlib.Omega.{arith}
 use lib.Dec.{eqb}
 use lib.ListN.{length, length-append, length-map}
-use borrow.Author.Tests.{eqb-true}
+use borrow.Author.Tests.{eqb-true, leb-true}
 use Rattle.plain.specs.Choice.{select}
 use Rattle.plain.specs.Lists.{range, keepIf}
 use Rattle.plain.specs.Told.{Told}
@@ -27,21 +27,21 @@ use Rattle.defs.specs.declared.ruledef.Part.{Part}
 use Rattle.defs.proofs.Fits.{Sizes, sizes-bound}
 use Rattle.defs.proofs.Starts.{ruleset-below}
 use Rattle.readings.specs.Tree.{Tree, node, Args, end, expr, nest}
-use Rattle.readings.specs.Scene.{Scene, Lawful, sceneOf}
+use Rattle.readings.specs.Scene.{Scene, Lawful, sceneOf, based}
 use Rattle.readings.specs.Reading.{Span, From, finish, exact, whitespace, expression, nested, Reading, reading}
 use Rattle.readings.specs.Plan.{done, run, records, room}
 use Rattle.readings.specs.Walk.{Match, topPairs, tries, scan, depths}
 use Rattle.readings.specs.Answer.{exactCount, greatestCount, greatest, best, argCount, treeWords, argWords, allWords, wordsOf, answerWords}
-use Rattle.readings.specs.Call.{Accepted, tree, callWith}
-use Rattle.readings.specs.Measure.{treeRecords, argRecords, treeDepth, solidsBefore, solids}
+use Rattle.readings.specs.Call.{Accepted, tree, baseFits, callWith}
+use Rattle.readings.specs.Measure.{treeRecords, argRecords, treeDepth, solidsBefore, solids, Fit}
 use Rattle.readings.proofs.Runs.{run-done, run-room}
-use Rattle.readings.proofs.Packed.{lawful}
+use Rattle.readings.proofs.Packed.{lawful, lawful-based}
 use Rattle.readings.proofs.Scan.{Enough, scan-enough, tries-readings}
 use Rattle.readings.proofs.Best.{reached}
 use Rattle.readings.proofs.Spans.{exact-within, candidate-within, under-within, from-within, few-exact}
 use Rattle.readings.proofs.Sizes.{some-length, tries-paid, tries-stored, tries-shallow}
-use Rattle.readings.proofs.Calls.{bad-table, bad-line, bad-sheet, bad-budget, stopped, walked-through, fits, short}
-use Rattle.readings.proofs.Numbers.{Case, table, bytes, extents, visits, walk, none-found, too-long, found, exactly}
+use Rattle.readings.proofs.Calls.{bad-table, bad-line, bad-sheet, bad-budget, bad-base, stopped, walked-through, fits, short}
+use Rattle.readings.proofs.Numbers.{Case, table, bytes, extents, visits, starts, walk, none-found, too-long, found, exactly}
 
 -- ---- how many words
 
@@ -89,14 +89,11 @@ kept-fewer {A} f (x ∷ xs) = go (f x) (kept-fewer f xs)
 
 -- ---- every word
 
-abbrev pub Fit : List ℕ → Type 0
-Fit ws = (w : ℕ) → List·Memᴰ w ws → w < 65536
-
 fit-none : Fit []
 fit-none w m = absurd (List·Memᴰ·not-nil m)
 
-fit-more : {x : ℕ} {ws : List ℕ} → x < 65536 → Fit ws → Fit (x ∷ ws)
-fit-more {x} {ws} h k w m = elim (List·Memᴰ·cases-cons m) [ inl e ↦ subst (λ (n : ℕ). n < 65536) (sym e) h | inr n ↦ k w n ]
+fit-more : {x : ℕ} {ws : List ℕ} → x < 4294967296 → Fit ws → Fit (x ∷ ws)
+fit-more {x} {ws} h k w m = elim (List·Memᴰ·cases-cons m) [ inl e ↦ subst (λ (n : ℕ). n < 4294967296) (sym e) h | inr n ↦ k w n ]
 
 fit-join : (vs : List ℕ) {ws : List ℕ} → Fit vs → Fit ws → Fit (vs ++ ws)
 fit-join vs h k w m = elim (List·Memᴰ·append-cases vs m) [ inl i ↦ h w i | inr j ↦ k w j ]
@@ -107,39 +104,41 @@ count-records end = omega arith
 count-records (expr x y a) = omega (arith, count-records a)
 count-records (nest x y t a) = omega (arith, count-records a)
 
--- rulesets and rules that have numbers of 16 bits, and a line that is short
+-- rulesets and rules that have numbers of 16 bits, and a line that is short, in the first 2^32 bytes of its file
 pub record Small (s : Scene) : Type 0 where
   pub short : length (s .line) ≤ 120
+  pub early : s .base ≤ 4294967175
   pub numbers : (r k : ℕ) → List·Memᴰ k (s .rules r) → (r < 65536) × (k < 65536)
 
 module _ (s : Scene) (law : Lawful s) (small : Small s) where
-  span-fits : (l c f d : ℕ) → d ≤ length (s .line) → Span s l c f d → (f < 65536) × (d < 65536)
-  span-fits l c f d h q = (omega (arith, q .least, small .short), omega (arith, small .short))
+  -- at the greatest base, 4,294,967,175, place 120 is the greatest number of 32 bits
+  span-fits : (l c d f g : ℕ) → d ≤ length (s .line) → Span s l c d f g → (f < 4294967296) × (g < 4294967296)
+  span-fits l c d f g h q = (omega (arith, q .starts, small .short, small .early), omega (arith, q .stops, small .short, small .early))
 
   args-fit : {l c e : ℕ} {ps : List Part} {a : Args} → c ≤ l → l ≤ length (s .line) → From s l ps c a e → argRecords a ≤ room → Fit (argWords a)
   args-fit h k finish few = fit-none
   args-fit {l} {c} h k (exact {d = d} {x = x} p u) few = args-fit (exact-within s law l c x d h k p .1) k u few
   args-fit h k (whitespace p u) few = args-fit h k u few
-  args-fit {l} {c} h k (expression {d = d} {f = f} {ps = ps} p q u) few =
+  args-fit {l} {c} h k (expression {d = d} {f = f} {g = g} {ps = ps} p q u) few =
       let (i, j) = candidate-within s law l c ps h p in
-      let (x, y) = span-fits l c f d (omega arith) q in
+      let (x, y) = span-fits l c d f g (omega arith) q in
       fit-more (omega arith) (fit-more x (fit-more y (args-fit j k u (omega arith))))
-  args-fit {l} {c} h k (nested {m = m} {d = d} {f = f} {r = r} {k = z} {ps = ps} {a = a} {b = b} p n v q u) few =
+  args-fit {l} {c} h k (nested {m = m} {d = d} {f = f} {g = g} {r = r} {k = z} {ps = ps} {a = a} {b = b} p n v q u) few =
       let (i, j) = under-within s law l c ps h p in
       let (_, o) = from-within s law i (omega arith) v in
-      let (x, y) = span-fits l c f d (omega arith) q in
-      let (g, w) = small .numbers r z n in
+      let (x, y) = span-fits l c d f g (omega arith) q in
+      let (i′, w) = small .numbers r z n in
       fit-more (omega arith)
       (fit-more x
       (fit-more y
       (fit-join (treeWords (node r z b))
-      (fit-more g (fit-more w (fit-more (omega (arith, count-records b)) (args-fit i (omega arith) v (omega arith)))))
+      (fit-more (omega (arith, i′)) (fit-more (omega (arith, w)) (fit-more (omega (arith, count-records b)) (args-fit i (omega arith) v (omega arith)))))
       (args-fit (omega arith) k u (omega arith)))))
 
   tree-fits : {t : Tree} → Reading s t → treeRecords t ≤ room → Fit (treeWords t)
   tree-fits (reading {r} {k} {a} i j w) few =
       let (g, h) = small .numbers r k j in
-      fit-more g (fit-more h (fit-more (omega (arith, count-records a)) (args-fit (omega arith) (omega arith) w (omega arith))))
+      fit-more (omega (arith, g)) (fit-more (omega (arith, h)) (fit-more (omega (arith, count-records a)) (args-fit (omega arith) (omega arith) w (omega arith))))
 
   all-fit : (ts : List Tree) → ((t : Tree) → List·Memᴰ t ts → Reading s t × (treeRecords t ≤ room)) → Fit (allWords ts)
   unfolding allWords
@@ -188,7 +187,11 @@ module _ (s : Scene) (law : Lawful s) (small : Small s) where
     pub tree-few : (t : Tree) → List·Memᴰ t (map tree ms) → (exactCount s t ≤ 120) × (length (treeWords t) ≤ 12288)
     tree-few t m = let (r, few) = read t m in (omega (arith, few-exact s law r, solids-short), omega (arith, tree-length t, few))
 
-    -- every answer word fits 16 bits
+    -- the words of each tree fit 32 bits
+    pub tree-fit : (t : Tree) → List·Memᴰ t (map tree ms) → Fit (treeWords t)
+    tree-fit t m = let (r, few) = read t m in tree-fits r few
+
+    -- and so does every answer word
     pub words-fit : Fit (answerWords s (map tree ms))
     unfolding wordsOf
     words-fit =
@@ -209,7 +212,7 @@ module _ (s : Scene) (law : Lawful s) (small : Small s) where
 
 -- ---- of an accepted call
 
-module _ (t line sheet : List ℕ) (budget : ℕ) (ok : Accepted t line sheet budget) where
+module _ (t line sheet : List ℕ) (budget base : ℕ) (ok : Accepted t line sheet budget base) where
   sizes : Sizes (rulesetsIn t) (recordsIn t) (partsIn t)
   unfolding tableFits sizesFit
   sizes = sizes-bound (rulesetsIn t) (recordsIn t) (partsIn t) (and-left (sizesFit t) _ (ok .table))
@@ -236,9 +239,9 @@ module _ (t line sheet : List ℕ) (budget : ℕ) (ok : Accepted t line sheet bu
         omega (arith, many, below, kept-length (recordsIn t) (λ i. eqb (rulesetAt t i) r), count-most (recordsIn t) (λ i. eqb (rulesetAt t i) r), sizes .rules),
       )
 
-  pub small : Small (sceneOf t line sheet)
-  unfolding sceneOf
-  small = record { short = good-is line .0 (ok .bytes) .short; numbers = rules-few }
+  pub small : Small (based base (sceneOf t line sheet))
+  unfolding sceneOf based baseFits
+  small = record { short = good-is line .0 (ok .bytes) .short; early = leb-true base 4294967175 (ok .starts); numbers = rules-few }
 
 -- ---- depth never cuts a reading off in silence
 
@@ -251,33 +254,34 @@ deepest s law v {w} {u} {ms} e r =
 
 -- ---- the words that any call needs, accepted or not
 
-module _ (order : Scene → List (ℕ × ℕ)) (enough : (s : Scene) → Lawful s → Enough s (order s)) (t line sheet : List ℕ) (budget : ℕ) (b : List ℕ) where
-  pub call-words : callWith order t line sheet budget b .words ≤ 12589058
-  call-words = go (exactly order t line sheet budget b (callWith order t line sheet budget b .number) .0 refl)
+module _ (order : Scene → List (ℕ × ℕ)) (enough : (s : Scene) → Lawful s → Enough s (order s)) (t line sheet : List ℕ) (budget base : ℕ) (b : List ℕ) where
+  pub call-words : callWith order t line sheet budget base b .words ≤ 12589058
+  call-words = go (exactly order t line sheet budget base b (callWith order t line sheet budget base b .number) .0 refl)
     where
       s : Scene
-      s = sceneOf t line sheet
+      s = based base (sceneOf t line sheet)
 
-      few : Accepted t line sheet budget → (left used : ℕ) (m : Match) (ms : List Match) → run (tries s (order s)) budget 0 ≡ done left used (m ∷ ms)
+      few : Accepted t line sheet budget base → (left used : ℕ) (m : Match) (ms : List Match) → run (tries s (order s)) budget 0 ≡ done left used (m ∷ ms)
           → length (answerWords s (tree m ∷ map tree ms)) ≤ 12589058
-      few a left used m ms e = words-few s (law a) (small t line sheet budget a) (order s) (enough s (law a)) budget e
+      few a left used m ms e = words-few s (law a) (small t line sheet budget base a) (order s) (enough s (law a)) budget e
         where
-          law : Accepted t line sheet budget → Lawful s
-          law a = lawful t line sheet (a .extents)
+          law : Accepted t line sheet budget base → Lawful s
+          law a = lawful-based base (lawful t line sheet (a .extents))
 
-      none-needed : {r : Told} → callWith order t line sheet budget b ≡ r → r .words ≡ 0 → callWith order t line sheet budget b .words ≤ 12589058
+      none-needed : {r : Told} → callWith order t line sheet budget base b ≡ r → r .words ≡ 0 → callWith order t line sheet budget base b .words ≤ 12589058
       none-needed e z = omega (arith, ap (λ (r : Told). r .words) e, z)
 
-      go : {n : ℕ} → Case order t line sheet budget b n → callWith order t line sheet budget b .words ≤ 12589058
-      go (table e) = none-needed (bad-table order t line sheet budget b e) refl
-      go (bytes p e f) = none-needed (bad-line order t line sheet budget b p e f) refl
-      go (extents e f g) = none-needed (bad-sheet order t line sheet budget b e f g) refl
-      go (visits e f g h) = none-needed (bad-budget order t line sheet budget b e f g h) refl
-      go (walk {n = n} left a e) = none-needed (stopped order t line sheet budget b a n left e) refl
-      go (none-found left used a e) = none-needed (walked-through order t line sheet budget b a left used [] e) refl
+      go : {n : ℕ} → Case order t line sheet budget base b n → callWith order t line sheet budget base b .words ≤ 12589058
+      go (table e) = none-needed (bad-table order t line sheet budget base b e) refl
+      go (bytes p e f) = none-needed (bad-line order t line sheet budget base b p e f) refl
+      go (extents e f g) = none-needed (bad-sheet order t line sheet budget base b e f g) refl
+      go (visits e f g h) = none-needed (bad-budget order t line sheet budget base b e f g h) refl
+      go (starts e f g h i) = none-needed (bad-base order t line sheet budget base b e f g h i) refl
+      go (walk {n = n} left a e) = none-needed (stopped order t line sheet budget base b a n left e) refl
+      go (none-found left used a e) = none-needed (walked-through order t line sheet budget base b a left used [] e) refl
       go (too-long left used m ms a e h) =
-          let q = ap (λ (r : Told). r .words) (walked-through order t line sheet budget b a left used (m ∷ ms) e ∙ short s (budget - left) b (answerWords s (tree m ∷ map tree ms)) h) in
+          let q = ap (λ (r : Told). r .words) (walked-through order t line sheet budget base b a left used (m ∷ ms) e ∙ short s (budget - left) b (answerWords s (tree m ∷ map tree ms)) h) in
           omega (arith, q, few a left used m ms e)
       go (found left used m ms a e h) =
-          let q = ap (λ (r : Told). r .words) (walked-through order t line sheet budget b a left used (m ∷ ms) e ∙ fits s (budget - left) b (answerWords s (tree m ∷ map tree ms)) h) in
+          let q = ap (λ (r : Told). r .words) (walked-through order t line sheet budget base b a left used (m ∷ ms) e ∙ fits s (budget - left) b (answerWords s (tree m ∷ map tree ms)) h) in
           omega (arith, q, few a left used m ms e)

@@ -14,22 +14,25 @@ use Rattle.line.specs.Line.{faultAt}
 use Rattle.defs.specs.Table.{tableFits}
 use Rattle.extents.specs.Sheet.{sheetFits}
 use Rattle.readings.specs.Tree.{Tree}
-use Rattle.readings.specs.Scene.{Scene, sceneOf}
+use Rattle.readings.specs.Scene.{Scene, sceneOf, based}
 use Rattle.readings.specs.Reading.{Readings}
-use Rattle.readings.specs.Plan.{done, stop, run}
+use Rattle.readings.specs.Plan.{Outcome, done, stop, run}
 use Rattle.readings.specs.Walk.{Match, tries}
 use Rattle.readings.specs.Answer.{greatestCount, best, answerWords}
-use Rattle.readings.specs.Call.{Accepted, stoppedAfter, written, matched, tree, ended, budgetFits, callWith}
+use Rattle.readings.specs.Call.{Accepted, stoppedAfter, written, matched, tree, ended, budgetFits, baseFits, callWith}
 use Rattle.readings.proofs.Runs.{run-spent}
 use Rattle.readings.specs.Demand.{Demand3, no-match, listed}
 use Rattle.readings.proofs.Best.{best-readings, best-counts, best-one}
 
-module _ (order : Scene → List (ℕ × ℕ)) (t line sheet : List ℕ) (budget : ℕ) (b : List ℕ) where
+module _ (order : Scene → List (ℕ × ℕ)) (t line sheet : List ℕ) (budget base : ℕ) (b : List ℕ) where
   abbrev answer : Told
-  answer = callWith order t line sheet budget b
+  answer = callWith order t line sheet budget base b
 
-  abbrev walked : Told
-  walked = ended (sceneOf t line sheet) budget b (run (tries (sceneOf t line sheet) (order (sceneOf t line sheet))) budget 0)
+  abbrev s : Scene
+  s = based base (sceneOf t line sheet)
+
+  abbrev outcome : Outcome (List Match)
+  outcome = run (tries s (order s)) budget 0
 
   -- the checks, in their order
   pub bad-table : tableFits t ≡ false → answer ≡ refusedAt 2 0 b
@@ -48,25 +51,27 @@ module _ (order : Scene → List (ℕ × ℕ)) (t line sheet : List ℕ) (budget
   unfolding callWith
   bad-budget e f g h = rw (callWith, e, f, g, h)
 
-  pub accepted : Accepted t line sheet budget → answer ≡ walked
+  pub bad-base : tableFits t ≡ true → faultAt line ≡ none → sheetFits sheet (length line) ≡ true → budgetFits budget ≡ true → baseFits base ≡ false → answer ≡ refusedAt 19 0 b
   unfolding callWith
-  accepted a = rw (callWith, a .table, a .bytes, a .extents, a .visits)
+  bad-base e f g h i = rw (callWith, e, f, g, h, i)
+
+  pub accepted : Accepted t line sheet budget base → answer ≡ ended s budget b outcome
+  unfolding callWith
+  accepted a = rw (callWith, a .table, a .bytes, a .extents, a .visits, a .starts)
 
   -- a walk that is refused, with its visits; on 6 they are the budget
-  pub stopped : Accepted t line sheet budget → (n left : ℕ) → run (tries (sceneOf t line sheet) (order (sceneOf t line sheet))) budget 0 ≡ stop n left
-      → answer ≡ stoppedAfter n (budget - left) b
-  stopped a n left e = accepted a ∙ ap (ended (sceneOf t line sheet) budget b) e
+  pub stopped : Accepted t line sheet budget base → (n left : ℕ) → outcome ≡ stop n left → answer ≡ stoppedAfter n (budget - left) b
+  stopped a n left e = accepted a ∙ ap (ended s budget b) e
 
-  pub spent : Accepted t line sheet budget → (left : ℕ) → run (tries (sceneOf t line sheet) (order (sceneOf t line sheet))) budget 0 ≡ stop 6 left
-      → answer ≡ stoppedAfter 6 budget b
+  pub spent : Accepted t line sheet budget base → (left : ℕ) → outcome ≡ stop 6 left → answer ≡ stoppedAfter 6 budget b
   spent a left e =
-      let all : budget - left ≡ budget = omega (arith, run-spent (tries (sceneOf t line sheet) (order (sceneOf t line sheet))) budget 0 e) in
+      let all : budget - left ≡ budget = omega (arith, run-spent (tries s (order s)) budget 0 e) in
       stopped a 6 left e ∙ ap (λ (v : ℕ). stoppedAfter 6 v b) all
 
   -- a walk that is not refused
-  pub walked-through : Accepted t line sheet budget → (left used : ℕ) (ms : List Match) → run (tries (sceneOf t line sheet) (order (sceneOf t line sheet))) budget 0 ≡ done left used ms
-      → answer ≡ matched (sceneOf t line sheet) (budget - left) (map tree ms) b
-  walked-through a left used ms e = accepted a ∙ ap (ended (sceneOf t line sheet) budget b) e
+  pub walked-through : Accepted t line sheet budget base → (left used : ℕ) (ms : List Match) → outcome ≡ done left used ms
+      → answer ≡ matched s (budget - left) (map tree ms) b
+  walked-through a left used ms e = accepted a ∙ ap (ended s budget b) e
 
 -- ---- demand 3, from the readings that a walk has listed
 

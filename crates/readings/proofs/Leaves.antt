@@ -6,6 +6,7 @@ use mathlib.Core.Bool.{Bool, true, false, _&&_}
 use mathlib.Core.List.{List, [], _∷_, List·Memᴰ, List·Memᴰ·head, List·Memᴰ·tail, List·Memᴰ·cases-cons, List·Memᴰ·not-nil}
 use mathlib.Core.Option.{Option, none, some, Option·some-inj, Option·none-ne-some}
 use Prim.Native.Nat.{ℕ, _+_, _<_, min}
+use native.Mathlib.Nat.{zero-add}
 use native.Mathlib.Omega.{arith}
 use native.Mathlib.Decide.{decLt}
 use lib.Dec.{leb, ltb}
@@ -95,11 +96,11 @@ module _ (s : Scene) (l c : ℕ) where
 
   -- ---- span
 
-  pub span-declared : (e : ℕ) → Span s l c (start s l c e) e
-  span-declared e = record { place = usefulAt s l c; useful = useful-found; least = refl }
+  pub span-declared : (e : ℕ) → Span s l c e (s .base + start s l c e) (s .base + e)
+  span-declared e = record { place = usefulAt s l c; useful = useful-found; starts = refl; stops = refl }
 
-  pub span-found : (f e : ℕ) → Span s l c f e → f ≡ start s l c e
-  span-found f e p = p .least ∙ ap (min e) (useful-only (p .useful))
+  pub span-found : (e f g : ℕ) → Span s l c e f g → f ≡ s .base + start s l c e
+  span-found e f g p = p .starts ∙ ap (λ (n : ℕ). s .base + min e n) (useful-only (p .useful))
 
   -- ---- cut and limits
 
@@ -142,3 +143,7 @@ same-useful s l m c p q u h v k = ordered (decLt p q) (decLt q p)
     ordered (yes i) j = absurd (not-both (v .passed p (omega (arith, u .from, u .within)) i) (u .stands h))
     ordered (no i) (yes j) = absurd (not-both (u .passed q (omega (arith, v .from, v .within)) j) (v .stands k))
     ordered (no i) (no j) = omega (arith, i, j)
+
+-- at base 0, where the line stands alone, a place is its offset
+pub alone : _≡_ {A = ℕ → ℕ} (λ p. 0 + p) (λ p. p)
+alone = λ i p. zero-add p i

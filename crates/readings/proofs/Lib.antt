@@ -4,7 +4,9 @@ pub mod Firsts
 pub mod Candidates
 pub mod Plans
 pub mod Runs
+pub mod Mapped
 pub mod Walks
+pub mod Moved
 pub mod Scan
 pub mod Packed
 pub mod Lookups
@@ -13,6 +15,7 @@ pub mod Calls
 pub mod Agree
 pub mod Theorems
 pub mod Numbers
+pub mod Shifts
 pub mod Spans
 pub mod Sizes
 pub mod Bounds

@@ -16,7 +16,7 @@ use Rattle.defs.specs.Ruledef.{isTop, rulesetOf}
 use Rattle.extents.specs.Sheet.{sheetFits}
 use Rattle.extents.specs.declared.Half.the-variants.{Free, Greedy}
 use Rattle.extents.proofs.Ends.{end-between}
-use Rattle.readings.specs.Scene.{walkerAt, Lawful, sceneOf}
+use Rattle.readings.specs.Scene.{Scene, walkerAt, Lawful, sceneOf, based}
 
 -- what is found below a held limit lies at or after the cursor, and below the limit
 pub past-cursor : (line : List ℕ) (l c p : ℕ) → walkerAt line l c .cursor ≤ p → p < walkerAt line l c .limit → (c ≤ p) × (p ≤ l)
@@ -34,4 +34,16 @@ lawful t line sheet good = record {
   greedy-within = λ c l e q. end-between sheet (length line) good Greedy c l e q;
   rules-apart = λ r. range-apart 0 (length (rulesetOf t r .rules));
   tops-apart = kept-apart (isTop t) (λ (r : ℕ). r) (range 0 (rulesetsIn t)) (range-apart 0 (rulesetsIn t));
+}
+
+-- wherever the line begins
+pub lawful-based : {s : Scene} (b : ℕ) → Lawful s → Lawful (based b s)
+unfolding based
+lawful-based b law = record {
+  cut-at = law .cut-at;
+  cut-within = law .cut-within;
+  free-within = law .free-within;
+  greedy-within = law .greedy-within;
+  rules-apart = law .rules-apart;
+  tops-apart = law .tops-apart;
 }

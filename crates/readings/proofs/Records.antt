@@ -80,7 +80,7 @@ module _ {A B : Type 0} where
   flat-mem f (x ∷ xs) m = elim (List·Memᴰ·append-cases (f x) m) [ inl i ↦ (x, i) | inr j ↦ flat-mem f xs j ]
 
   -- what a test keeps of members that were mapped
-  kept-map : (g : B → Bool) (h : A → Bool) (to : A → B) (xs : List A) → ((x : A) → List·Memᴰ x xs → g (to x) ≡ h x) → keepIf g (map to xs) ≡ map to (keepIf h xs)
+  pub kept-map : (g : B → Bool) (h : A → Bool) (to : A → B) (xs : List A) → ((x : A) → List·Memᴰ x xs → g (to x) ≡ h x) → keepIf g (map to xs) ≡ map to (keepIf h xs)
   unfolding keepIf
   kept-map g h to [] e = refl
   kept-map g h to (x ∷ xs) e = go (h x) (e x (List·Memᴰ·head refl)) (kept-map g h to xs (λ y m. e y (List·Memᴰ·tail m)))

@@ -4,13 +4,13 @@ use mathlib.Core.Path.{_≡_, refl, sym, _∙_, ap}
 use mathlib.Core.Logic.{inl, inr}
 use mathlib.Core.Bool.{Bool, true, false}
 use mathlib.Core.Option.{some, Option·none-ne-some}
-use mathlib.Core.List.{List, [], _∷_, _++_, List·Memᴰ, List·Memᴰ·head, List·Memᴰ·tail, List·Memᴰ·cases-cons, List·Memᴰ·not-nil}
+use mathlib.Core.List.{List, [], _∷_, _++_, map, List·Memᴰ, List·Memᴰ·head, List·Memᴰ·tail, List·Memᴰ·cases-cons, List·Memᴰ·not-nil}
 use Prim.Native.Nat.{ℕ, zero, suc, _+_, _≤_}
 use native.Mathlib.Omega.{arith}
 use lib.Dec.{ltb}
 use borrow.Author.Tests.{ltb-true, lt-ltb}
 use Rattle.plain.specs.Lists.{Apart}
-use Rattle.readings.specs.Plan.{Plan, give, visit, keep, deep, Gives, Outcome, done, stop, run, room, visits, records, pooled, _then_, each}
+use Rattle.readings.specs.Plan.{Plan, give, visit, keep, deep, Gives, Outcome, done, stop, run, room, visits, records, pooled, _then_, each, mapped}
 use Rattle.readings.proofs.Plans.{then-value, each-parts}
 
 module _ {A : Type 0} where
@@ -86,6 +86,25 @@ module _ {A : Type 0} where
       go true e k = k e
       go false e k = let q : w ≡ v = cc in omega arith
   stop-left deep v u {n} {w} h = let q : w ≡ v = cc in omega arith
+
+-- ---- each answer changed: the same refusal, or the same visits and records and the answers changed
+
+abbrev pub mappedEnd : {A B : Type 0} → (A → B) → Outcome (List A) → Outcome (List B)
+mappedEnd f (done v u xs) = done v u (map f xs)
+mappedEnd f (stop n v) = stop n v
+
+module _ {A B : Type 0} (f : A → B) where
+  pub run-mapped : (p : Plan (List A)) (v u : ℕ) → run (mapped f p) v u ≡ mappedEnd f (run p v u)
+  unfolding mapped run _then_
+  run-mapped (give xs) v u = refl
+  run-mapped (visit p) zero u = refl
+  run-mapped (visit p) (suc v) u = run-mapped p v u
+  run-mapped (keep p) v u = ap (pooled (ltb u room) v) (run-mapped p v (suc u)) ∙ go (ltb u room)
+    where
+      go : (b : Bool) → pooled b v (mappedEnd f (run p v (suc u))) ≡ mappedEnd f (pooled b v (run p v (suc u)))
+      go true = refl
+      go false = refl
+  run-mapped deep v u = refl
 
 -- ---- cost together
 

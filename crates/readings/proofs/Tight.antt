@@ -27,8 +27,8 @@ module _ (s : Scene) (l c : ℕ) where
   pub one-past : (x d e : ℕ) → Exactly-at s l c x d → Exactly-at s l c x e → d ≡ e
   one-past x d e p q = Option·some-inj .0 (sym (exactly-found s l c x d p) ∙ exactly-found s l c x e q)
 
-  pub one-start : (f g e : ℕ) → Span s l c f e → Span s l c g e → f ≡ g
-  one-start f g e p q = span-found s l c f e p ∙ sym (span-found s l c g e q)
+  pub one-span : (e f g h i : ℕ) → Span s l c e f g → Span s l c e h i → (f ≡ h) × (g ≡ i)
+  one-span e f g h i p q = (span-found s l c e f g p ∙ sym (span-found s l c e h i q), p .stops ∙ sym (q .stops))
 
   pub one-cut : Lawful s → (ps : List Part) (m n : ℕ) → Cut-for s l c ps m → Cut-for s l c ps n → m ≡ n
   one-cut law ps m n p q = Option·some-inj .0 (sym (cut-found s l c law ps m p) ∙ cut-found s l c law ps n q)
@@ -56,9 +56,9 @@ module _ (s : Scene) (ts us : List Tree) where
 
 -- ---- a call's number, and all that it tells
 
-module _ (order : Scene → List (ℕ × ℕ)) (t line sheet : List ℕ) (budget : ℕ) (b : List ℕ) where
-  pub one-number : {m n : ℕ} → Case order t line sheet budget b m → Case order t line sheet budget b n → m ≡ n
-  one-number p q = sym (numbered order t line sheet budget b p) ∙ numbered order t line sheet budget b q
+module _ (order : Scene → List (ℕ × ℕ)) (t line sheet : List ℕ) (budget base : ℕ) (b : List ℕ) where
+  pub one-number : {m n : ℕ} → Case order t line sheet budget base b m → Case order t line sheet budget base b n → m ≡ n
+  one-number p q = sym (numbered order t line sheet budget base b p) ∙ numbered order t line sheet budget base b q
 
-  pub one-told : (r u : Told) → r ≡ callWith order t line sheet budget b → u ≡ callWith order t line sheet budget b → r ≡ u
+  pub one-told : (r u : Told) → r ≡ callWith order t line sheet budget base b → u ≡ callWith order t line sheet budget base b → r ≡ u
   one-told r u p q = p ∙ sym q

@@ -5,7 +5,8 @@ use mathlib.Core.Path.{_≡_, refl, sym, _∙_, subst, ap}
 use mathlib.Core.Bool.{Bool, true, false}
 use mathlib.Core.Option.{Option·some-inj, Option·none-ne-some}
 use mathlib.Core.List.{List, [], _∷_, map, List·Memᴰ, List·Memᴰ·head, List·Memᴰ·not-nil, List·Memᴰ·eq-of-singleton, Memᴰ·cast, Memᴰ·map, Memᴰ·of-map}
-use Prim.Native.Nat.{ℕ, zero, suc, _+_}
+use Prim.Native.Nat.{ℕ, zero, suc, _+_, _-_}
+use native.Mathlib.Omega.{arith}
 use lib.Dec.{eqb}
 use lib.ListN.{length}
 use borrow.Author.Tests.{eqb-true, eq-eqb}
@@ -46,8 +47,12 @@ pub same-end : {s : Scene} {l m c e f : ℕ} {ps : List Part} {a : Args} → Fro
 same-end finish finish = refl
 same-end {s} {l} {m} {c} (exact {d = d} {x = x} p u) (exact {d = d′} q v) = same-end u (rw (← same-past s l m c x d d′ p q) at v)
 same-end (whitespace p u) (whitespace q v) = same-end u v
-same-end (expression p i u) (expression q j v) = same-end u v
-same-end (nested p k t i u) (nested q n w j v) = same-end u v
+same-end {s} (expression {d = d} p i u) (expression {d = d′} q j v) =
+    let there : d ≡ d′ = omega (arith, i .stops, j .stops) in
+    same-end u (rw (← there) at v)
+same-end {s} (nested {d = d} p k t i u) (nested {d = d′} q n w j v) =
+    let there : d ≡ d′ = omega (arith, i .stops, j .stops) in
+    same-end u (rw (← there) at v)
 
 -- ---- what a walk of rulesets lists is what the rules permit
 
@@ -113,13 +118,13 @@ module _ (s : Scene) (law : Lawful s) (below : Below) (ok : Lists s below) (fin 
   walk-complete {c = c} finish f h = rw (← Option·some-inj .0 (when-true (fin c) _ f h)) (List·Memᴰ·head refl)
   walk-complete {l} {c} (exact {d = d} {x = x} p w) f h = walk-complete w f (after-some _ _ (exactly-found s l c x d p) h)
   walk-complete {l} {c} (whitespace p w) f h = walk-complete w f (when-true _ _ (gap-found s l c p) h)
-  walk-complete {l} {c} {e} (expression {d = d} {f = b} {ps = ps} {a = a} i q w) f h =
-      rw (span-found s l c b d q)
+  walk-complete {l} {c} {e} (expression {d = d} {f = b} {g = z} {ps = ps} {a = a} i q w) f h =
+      rw (span-found s l c d b z q, q .stops)
       (each-has _ (ends s l c ps) h (end-listed s law l c ps i)
       (λ r g. mapped-has (addExpr s l c d) (walk s below fin ps l d) g (λ xs g₁. walk-complete w f g₁)))
-  walk-complete {l} {c} {e} (nested {m = m} {d = d} {f = b′} {r = r} {k = k} {ps = ps} {a = a} {b = b} im ik v q w) f h =
+  walk-complete {l} {c} {e} (nested {m = m} {d = d} {f = b′} {g = z} {r = r} {k = k} {ps = ps} {a = a} {b = b} im ik v q w) f h =
       let (is, gi, h₁) = then-gives _ (each (limits s l c ps) (λ m. below r m c)) h in
-      rw (span-found s l c b′ d q)
+      rw (span-found s l c d b′ z q, q .stops)
       (each-has _ (firsts sameMatch is) h₁
       (kept r l c ps gi (each-has (λ m. below r m c) (limits s l c ps) gi (limit-found s l c law ps m im) (λ ri g. ok .complete r _ c g ik v)))
       (λ rr g. mapped-has (addNest s l c (node r k b, d)) (walk s below fin ps l d) g (λ xs g₁. walk-complete w f g₁)))
@@ -148,10 +153,11 @@ module _ (s : Scene) (law : Lawful s) (below : Below) (fin : ℕ → Bool) where
   walk-once (Exact y ∷ ps) l c h = after-once _ args (exactly s l c y) h (λ d g. walk-once ps l d g)
   walk-once (Whitespace ∷ ps) l c h = when-once args (isGap s l c) _ h (λ g. walk-once ps l c g)
   walk-once (Expression ∷ ps) l c h =
-      each-once _ (λ (e : ℕ). e) args first-end (ends s l c ps)
+      each-once _ (λ (e : ℕ). e) args (λ (a : Args). first-end a - s .base) (ends s l c ps)
       (λ e r z _ g m.
       let (xs, _, y, _, q) = mapped-source (addExpr s l c e) (walk s below fin ps l e) g m in
-      ap (λ (x : Found). first-end (x .0)) (sym q))
+      let back : s .base + e - s .base ≡ e = omega arith in
+      ap (λ (x : Found). first-end (x .0) - s .base) (sym q) ∙ back)
       h (ends-apart s law l c ps)
       (λ e r g. mapped-once (addExpr s l c e) (walk s below fin ps l e) g args args (λ x y q. ap rest q) (λ xs g₁. walk-once ps l e g₁))
   walk-once (Nested r ∷ ps) l c h =

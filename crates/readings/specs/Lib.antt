@@ -7,5 +7,6 @@ pub mod Lookup
 pub mod Answer
 pub mod Call
 pub mod Demand
+pub mod Shift
 pub mod Measure
 pub mod Records

@@ -1,7 +1,7 @@
 -- Measures of a tree and of a line, by which the answer's words are bounded.
 use mathlib.Core.Bool.{not}
-use mathlib.Core.List.{List}
-use Prim.Native.Nat.{ℕ, suc, _+_, max}
+use mathlib.Core.List.{List, List·Memᴰ}
+use Prim.Native.Nat.{ℕ, suc, _+_, _<_, max}
 use lib.ListN.{length}
 use Rattle.plain.specs.Below.{countBelow}
 use Rattle.token.specs.Token.{isWhitespace}
@@ -34,3 +34,7 @@ solidsBefore line p = countBelow p (λ i. not (isWhitespace (byteAt line i)))
 
 abbrev pub solids : List ℕ → ℕ
 solids line = solidsBefore line (length line)
+
+-- words that fit 32 bits
+abbrev pub Fit : List ℕ → Type 0
+Fit ws = (w : ℕ) → List·Memᴰ w ws → w < 4294967296

@@ -64,23 +64,25 @@ pub data Under (s : Scene) (l c : ℕ) (ps : List Part) : ℕ → Type 0 where
   whole : Under s l c ps l
   up-to : {m : ℕ} → Cut-for s l c ps m → Under s l c ps m
 
--- an argument's end is the new cursor e; its start is the lesser of that and the old useful place
-pub record Span (s : Scene) (l c f e : ℕ) : Type 0 where
+-- An argument's end is the new cursor e; its start is the lesser of that and the old useful place. In the tree each stands
+-- as base plus offset: the start as f, the end as g.
+pub record Span (s : Scene) (l c e f g : ℕ) : Type 0 where
   pub place : ℕ
   pub useful : Useful s l c place
-  pub least : f ≡ min e place
+  pub starts : f ≡ s .base + min e place
+  pub stops : g ≡ s .base + e
 
 -- under limit l, the parts from cursor c on, with these arguments, to cursor e
 pub data From (s : Scene) : ℕ → List Part → ℕ → Args → ℕ → Type 0 where
   finish : {l c : ℕ} → From s l [] c end c
   exact : {l c d e x : ℕ} {ps : List Part} {a : Args} → Exactly-at s l c x d → From s l ps d a e → From s l (Exact x ∷ ps) c a e
   whitespace : {l c e : ℕ} {ps : List Part} {a : Args} → Gap s l c → From s l ps c a e → From s l (Whitespace ∷ ps) c a e
-  expression : {l c d e f : ℕ} {ps : List Part} {a : Args} → Candidate s l c ps d → Span s l c f d → From s l ps d a e
-      → From s l (Expression ∷ ps) c (expr f d a) e
+  expression : {l c d e f g : ℕ} {ps : List Part} {a : Args} → Candidate s l c ps d → Span s l c d f g → From s l ps d a e
+      → From s l (Expression ∷ ps) c (expr f g a) e
   -- every rule of the ruleset need not reach the limit; the limit goes back to l
-  nested : {l m c d e f r k : ℕ} {ps : List Part} {a b : Args} → Under s l c ps m → List·Memᴰ k (s .rules r)
-      → From s m (s .parts r k) c b d → Span s l c f d → From s l ps d a e
-      → From s l (Nested r ∷ ps) c (nest f d (node r k b) a) e
+  nested : {l m c d e f g r k : ℕ} {ps : List Part} {a b : Args} → Under s l c ps m → List·Memᴰ k (s .rules r)
+      → From s m (s .parts r k) c b d → Span s l c d f g → From s l ps d a e
+      → From s l (Nested r ∷ ps) c (nest f g (node r k b) a) e
 
 -- A reading is a tree permitted by these rules from any top ruleset. A top rule must end at the line's end.
 pub data Reading (s : Scene) : Tree → Type 0 where

@@ -15,8 +15,9 @@ use Rattle.defs.specs.declared.ruledef.Part.{Part}
 use Rattle.extents.specs.Sheet.{freeEnd, greedyEnd}
 
 pub record Scene : Type 1 where
-  -- the line's bytes
+  -- the line's bytes, and where it begins in its file
   pub line : List ℕ
+  pub base : ℕ
   -- top rulesets in order; a ruleset's rules by number, in order; a rule's parts
   pub tops : List ℕ
   pub rules : ℕ → List ℕ
@@ -42,10 +43,11 @@ pub record Lawful (s : Scene) : Type 0 where
   pub rules-apart : (r : ℕ) → Apart (λ (k : ℕ). k) (s .rules r)
   pub tops-apart : Apart (λ (r : ℕ). r) (s .tops)
 
--- the scene of a packed table, a line and a sheet, with the first edition of the cut
+-- the scene of a packed table, a line and a sheet, with the first edition of the cut; the line stands alone, at base 0
 unfoldable pub sceneOf : List ℕ → List ℕ → List ℕ → Scene
 sceneOf t line sheet = record {
   line = line;
+  base = 0;
   tops = keepIf (isTop t) (range 0 (rulesetsIn t));
   rules = λ r. range 0 (length (rulesetOf t r .rules));
   parts = λ r k. getD (rulesetOf t r .rules) k [];
@@ -53,4 +55,18 @@ sceneOf t line sheet = record {
   greedy = λ c l. greedyEnd sheet (length line) c l;
   IsCut = λ x l c p. CutAt line x (walkerAt line l c) p;
   cut = λ x l c. cut line x (walkerAt line l c);
+}
+
+-- the same line, where it begins at this base
+unfoldable pub based : ℕ → Scene → Scene
+based b s = record {
+  line = s .line;
+  base = b;
+  tops = s .tops;
+  rules = s .rules;
+  parts = s .parts;
+  free = s .free;
+  greedy = s .greedy;
+  IsCut = s .IsCut;
+  cut = s .cut;
 }

@@ -1,6 +1,6 @@
 -- A match and its arguments, as data. An argument has its span and a kind: expression, or nested with its match.
 use mathlib.Core.Bool.{Bool, true, false, _&&_}
-use Prim.Native.Nat.{ℕ}
+use Prim.Native.Nat.{ℕ, _+_}
 use lib.Dec.{eqb}
 
 mutual
@@ -29,3 +29,13 @@ abbrev mutual
   sameArgs (nest x y t a) end = false
   sameArgs (nest x y t a) (expr z w b) = false
   sameArgs (nest x y t a) (nest z w u b) = eqb x z && eqb y w && sameTree t u && sameArgs a b
+
+-- a match with every start and end so much further on, nested ones too, and nothing else
+abbrev mutual
+  pub moved : ℕ → Tree → Tree
+  moved d (node r k a) = node r k (movedArgs d a)
+
+  pub movedArgs : ℕ → Args → Args
+  movedArgs d end = end
+  movedArgs d (expr x y a) = expr (d + x) (d + y) (movedArgs d a)
+  movedArgs d (nest x y t a) = nest (d + x) (d + y) (moved d t) (movedArgs d a)

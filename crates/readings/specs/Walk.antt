@@ -5,7 +5,7 @@
 use mathlib.Core.Bool.{Bool, true, false, _||_}
 use mathlib.Core.List.{List, [], _∷_, _++_, map, flatMap}
 use mathlib.Core.Option.{Option, none, some}
-use Prim.Native.Nat.{ℕ, zero, suc, min}
+use Prim.Native.Nat.{ℕ, zero, suc, _+_, min}
 use lib.Dec.{eqb}
 use lib.ListN.{length}
 use Rattle.syntax.specs.Walker.{useful, expectChar, gap}
@@ -98,15 +98,15 @@ limits s l c ps = l ∷ listOf (cutFor s l c ps)
 abbrev pub sameMatch : Match → Match → Bool
 sameMatch i j = sameTree (i .0) (j .0)
 
--- an argument's start
+-- an argument's start in the line; in the tree start and end stand as base plus offset
 abbrev pub start : Scene → ℕ → ℕ → ℕ → ℕ
 start s l c e = min e (usefulAt s l c)
 
 abbrev pub addExpr : Scene → ℕ → ℕ → ℕ → Found → Found
-addExpr s l c e x = (expr (start s l c e) e (x .0), x .1)
+addExpr s l c e x = (expr (s .base + start s l c e) (s .base + e) (x .0), x .1)
 
 abbrev pub addNest : Scene → ℕ → ℕ → Match → Found → Found
-addNest s l c i x = (nest (start s l c (i .1)) (i .1) (i .0) (x .0), x .1)
+addNest s l c i x = (nest (s .base + start s l c (i .1)) (s .base + i .1) (i .0) (x .0), x .1)
 
 abbrev pub named : ℕ → ℕ → Found → Match
 named r k x = (node r k (x .0), x .1)

@@ -29,18 +29,18 @@ module _ (κs a : _) (n : ℕ) (x : _) (written : write-table.Post κs a (writin
   pub rewritten : take m (now (y .1 .0)) ≡ packed (dataOf (now (a .0)))
   rewritten = wrote-whole (packed (dataOf (now (a .0)))) (now (b .1 .0)) (filled m (now (y .1 .0))) (table-survives κs a n x written λs b (reading.Read m) y read same) refl
 
-  again : (order : Scene → List (ℕ × ℕ)) (t line sheet : List ℕ) (budget : ℕ) (answer : List ℕ) → t ≡ take m (now (y .1 .0))
-      → callWith order t line sheet budget answer ≡ callWith order (now (a .0)) line sheet budget answer
-  again order t line sheet budget answer e =
-      ap (λ (u : List ℕ). callWith order u line sheet budget answer) (e ∙ rewritten)
-      ∙ rewritten-call order (now (a .0)) line sheet budget answer (written-fits (now (a .0)) (now (a .1 .0)) n (now (x .1 .0)) written)
+  again : (order : Scene → List (ℕ × ℕ)) (t line sheet : List ℕ) (budget base : ℕ) (answer : List ℕ) → t ≡ take m (now (y .1 .0))
+      → callWith order t line sheet budget base answer ≡ callWith order (now (a .0)) line sheet budget base answer
+  again order t line sheet budget base answer e =
+      ap (λ (u : List ℕ). callWith order u line sheet budget base answer) (e ∙ rewritten)
+      ∙ rewritten-call order (now (a .0)) line sheet budget base answer (written-fits (now (a .0)) (now (a .1 .0)) n (now (x .1 .0)) written)
 
   -- a call on it answers what is promised of the table itself: by the full scan, and by prefix lookup
   pub rewritten-scan : (μs c : _) (r : Answer) (z : _) → match-instr.Post μs c r z → now (c .0) ≡ take m (now (y .1 .0))
-      → says r (now (z .1 .1 .1 .1 .0)) ≡ scanCall (now (a .0)) (now (c .1 .0)) (now (c .1 .1 .0)) (c .1 .1 .1 .0) (now (c .1 .1 .1 .1 .0))
-  rewritten-scan μs c r z p e = p .0 ∙ again topPairs (now (c .0)) (now (c .1 .0)) (now (c .1 .1 .0)) (c .1 .1 .1 .0) (now (c .1 .1 .1 .1 .0)) e
+      → says r (now (z .1 .1 .1 .1 .1 .0)) ≡ scanCall (now (a .0)) (now (c .1 .0)) (now (c .1 .1 .0)) (c .1 .1 .1 .0) (c .1 .1 .1 .1 .0) (now (c .1 .1 .1 .1 .1 .0))
+  rewritten-scan μs c r z p e = p .0 ∙ again topPairs (now (c .0)) (now (c .1 .0)) (now (c .1 .1 .0)) (c .1 .1 .1 .0) (c .1 .1 .1 .1 .0) (now (c .1 .1 .1 .1 .1 .0)) e
 
   pub rewritten-lookup : (μs c : _) (r : Answer) (z : _) → match-with-ruledef-map.Post μs c r z → now (c .0) ≡ take m (now (y .1 .0))
-      → says r (now (z .1 .1 .1 .1 .0)) ≡ lookupCall (now (a .0)) (now (c .1 .0)) (now (c .1 .1 .0)) (c .1 .1 .1 .0) (now (c .1 .1 .1 .1 .0))
+      → says r (now (z .1 .1 .1 .1 .1 .0)) ≡ lookupCall (now (a .0)) (now (c .1 .0)) (now (c .1 .1 .0)) (c .1 .1 .1 .0) (c .1 .1 .1 .1 .0) (now (c .1 .1 .1 .1 .1 .0))
   rewritten-lookup μs c r z p e =
-      p .0 ∙ again (λ s. foundPairs s (linePrefix (s .line))) (now (c .0)) (now (c .1 .0)) (now (c .1 .1 .0)) (c .1 .1 .1 .0) (now (c .1 .1 .1 .1 .0)) e
+      p .0 ∙ again (λ s. foundPairs s (linePrefix (s .line))) (now (c .0)) (now (c .1 .0)) (now (c .1 .1 .0)) (c .1 .1 .1 .0) (c .1 .1 .1 .1 .0) (now (c .1 .1 .1 .1 .1 .0)) e

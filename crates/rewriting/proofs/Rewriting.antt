@@ -28,6 +28,7 @@ scene-of-data t u line sheet same =
     scene : List ℕ → (ℕ → List (List Part)) → Scene
     scene tops rules = record {
       line = line;
+      base = 0;
       tops = tops;
       rules = λ r. range 0 (length (rules r));
       parts = λ r k. getD (rules r) k [];
@@ -38,15 +39,15 @@ scene-of-data t u line sheet same =
     }
 
 pub call-of-data :
-    (order : Scene → List (ℕ × ℕ)) (t u line sheet : List ℕ) (budget : ℕ) (b : List ℕ) → tableFits t ≡ tableFits u → dataOf t ≡ dataOf u
-    → callWith order t line sheet budget b ≡ callWith order u line sheet budget b
+    (order : Scene → List (ℕ × ℕ)) (t u line sheet : List ℕ) (budget base : ℕ) (b : List ℕ) → tableFits t ≡ tableFits u → dataOf t ≡ dataOf u
+    → callWith order t line sheet budget base b ≡ callWith order u line sheet budget base b
 unfolding callWith
-call-of-data order t u line sheet budget b fits same = rw (fits, scene-of-data t u line sheet same)
+call-of-data order t u line sheet budget base b fits same = rw (fits, scene-of-data t u line sheet same)
 
 -- an accepted table, and its data packed anew
 pub rewritten-call :
-    (order : Scene → List (ℕ × ℕ)) (t line sheet : List ℕ) (budget : ℕ) (b : List ℕ) → tableFits t ≡ true
-    → callWith order (packed (dataOf t)) line sheet budget b ≡ callWith order t line sheet budget b
-rewritten-call order t line sheet budget b h =
+    (order : Scene → List (ℕ × ℕ)) (t line sheet : List ℕ) (budget base : ℕ) (b : List ℕ) → tableFits t ≡ true
+    → callWith order (packed (dataOf t)) line sheet budget base b ≡ callWith order t line sheet budget base b
+rewritten-call order t line sheet budget base b h =
     let d = dataOf t in
-    call-of-data order (packed d) t line sheet budget b (packed-fits (d .tops) (d .rules) (table-fits t h) ∙ sym h) (packed-says (d .tops) (d .rules) (table-fits t h))
+    call-of-data order (packed d) t line sheet budget base b (packed-fits (d .tops) (d .rules) (table-fits t h) ∙ sym h) (packed-says (d .tops) (d .rules) (table-fits t h))

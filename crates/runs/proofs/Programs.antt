@@ -1,4 +1,4 @@
--- Programs joined, and the program of one line. A line's bytes, sheet and budget are read from its own part of what is lent, so
+-- Programs joined, and the program of one line. A line's bytes, sheet, budget and base are read from its own part of what is lent, so
 -- the lines of two programs joined are the lines of the one and then of the other.
 use mathlib.Core.Path.{_≡_, refl, sym, ap, ap₂, subst, _∙_}
 use mathlib.Core.Bool.{true, _&&_}
@@ -28,65 +28,67 @@ slice-behind pre text from end = ap (drop (length pre + from)) (take-append-add 
 
 -- ---- the lines of joined programs
 
-module _ (more moreSheets moreBudgets : List ℕ) (fs : List ℕ) where
-  lines-first : (from : ℕ) (text es sheets budgets : List ℕ) → endsFit from es (length text) ≡ true → length sheets ≡ sheetsSize from es → length budgets ≡ length es
-      → linesFrom from (text ++ more) (es ++ fs) (sheets ++ moreSheets) (budgets ++ moreBudgets)
-      ≡ linesFrom from text es sheets budgets ++ linesFrom (lastEnd from es) (text ++ more) fs moreSheets moreBudgets
+module _ (more moreSheets moreBudgets moreBases : List ℕ) (fs : List ℕ) where
+  lines-first : (from : ℕ) (text es sheets budgets bases : List ℕ) → endsFit from es (length text) ≡ true → length sheets ≡ sheetsSize from es → length budgets ≡ length es → length bases ≡ length es
+      → linesFrom from (text ++ more) (es ++ fs) (sheets ++ moreSheets) (budgets ++ moreBudgets) (bases ++ moreBases)
+      ≡ linesFrom from text es sheets budgets bases ++ linesFrom (lastEnd from es) (text ++ more) fs moreSheets moreBudgets moreBases
   unfolding linesFrom endsFit sheetsSize lastEnd
-  lines-first from text [] [] [] fit s b = refl
-  lines-first from text [] (x ∷ sheets) budgets fit s b = absurd (omega arith)
-  lines-first from text [] [] (x ∷ budgets) fit s b = absurd (omega arith)
-  lines-first from text (e ∷ es) sheets [] fit s b = absurd (omega arith)
-  lines-first from text (e ∷ es) sheets (v ∷ budgets) fit s b =
+  lines-first from text [] [] [] [] fit s b c = refl
+  lines-first from text [] (x ∷ sheets) budgets bases fit s b c = absurd (omega arith)
+  lines-first from text [] [] (x ∷ budgets) bases fit s b c = absurd (omega arith)
+  lines-first from text [] [] [] (x ∷ bases) fit s b c = absurd (omega arith)
+  lines-first from text (e ∷ es) sheets [] bases fit s b c = absurd (omega arith)
+  lines-first from text (e ∷ es) sheets (v ∷ budgets) [] fit s b c = absurd (omega arith)
+  lines-first from text (e ∷ es) sheets (v ∷ budgets) (u ∷ bases) fit s b c =
       let rest = and-right (leb from e) (leb e (length text) && endsFit e es (length text)) fit in
       let within = leb-true e (length text) (and-left (leb e (length text)) (endsFit e es (length text)) rest) in
       let size : sheetSize (e - from) ≤ length sheets = omega arith in
-      λ i. record { bytes = drop from (take-append-le e text more within i); sheet = take-append-le (sheetSize (e - from)) sheets moreSheets size i; budget = v }
-      ∷ (ap (λ (l : List ℕ). linesFrom e (text ++ more) (es ++ fs) l (budgets ++ moreBudgets)) (drop-append-le (sheetSize (e - from)) sheets moreSheets size)
-      ∙ lines-first e text es (drop (sheetSize (e - from)) sheets) budgets (and-right (leb e (length text)) (endsFit e es (length text)) rest)
-      (omega (arith, length-drop (sheetSize (e - from)) sheets)) (omega arith)) i
+      λ i. record { bytes = drop from (take-append-le e text more within i); sheet = take-append-le (sheetSize (e - from)) sheets moreSheets size i; budget = v; base = u }
+      ∷ (ap (λ (l : List ℕ). linesFrom e (text ++ more) (es ++ fs) l (budgets ++ moreBudgets) (bases ++ moreBases)) (drop-append-le (sheetSize (e - from)) sheets moreSheets size)
+      ∙ lines-first e text es (drop (sheetSize (e - from)) sheets) budgets bases (and-right (leb e (length text)) (endsFit e es (length text)) rest)
+      (omega (arith, length-drop (sheetSize (e - from)) sheets)) (omega arith) (omega arith)) i
 
-lines-behind : (pre text : List ℕ) (from : ℕ) (es sheets budgets : List ℕ)
-    → linesFrom (length pre + from) (pre ++ text) (map (λ e. length pre + e) es) sheets budgets ≡ linesFrom from text es sheets budgets
+lines-behind : (pre text : List ℕ) (from : ℕ) (es sheets budgets bases : List ℕ)
+    → linesFrom (length pre + from) (pre ++ text) (map (λ e. length pre + e) es) sheets budgets bases ≡ linesFrom from text es sheets budgets bases
 unfolding linesFrom
-lines-behind pre text from [] sheets budgets = refl
-lines-behind pre text from (e ∷ es) sheets budgets =
+lines-behind pre text from [] sheets budgets bases = refl
+lines-behind pre text from (e ∷ es) sheets budgets bases =
     let same : (length pre + e) - (length pre + from) ≡ e - from = omega arith in
-    λ i. record { bytes = slice-behind pre text from e i; sheet = take (sheetSize (same i)) sheets; budget = getD budgets 0 0 }
-    ∷ (ap (λ (n : ℕ). linesFrom (length pre + e) (pre ++ text) (map (λ e. length pre + e) es) (drop (sheetSize n) sheets) (drop 1 budgets)) same
-    ∙ lines-behind pre text e es (drop (sheetSize (e - from)) sheets) (drop 1 budgets)) i
+    λ i. record { bytes = slice-behind pre text from e i; sheet = take (sheetSize (same i)) sheets; budget = getD budgets 0 0; base = getD bases 0 0 }
+    ∷ (ap (λ (n : ℕ). linesFrom (length pre + e) (pre ++ text) (map (λ e. length pre + e) es) (drop (sheetSize n) sheets) (drop 1 budgets) (drop 1 bases)) same
+    ∙ lines-behind pre text e es (drop (sheetSize (e - from)) sheets) (drop 1 budgets) (drop 1 bases)) i
 
-module _ (text ends sheets budgets : List ℕ) (text′ ends′ sheets′ budgets′ : List ℕ) where
+module _ (text ends sheets budgets bases : List ℕ) (text′ ends′ sheets′ budgets′ bases′ : List ℕ) where
   -- the second text stands behind the first, which its last line ends
   abbrev pub joinedEnds : List ℕ
   joinedEnds = ends ++ map (λ e. length text + e) ends′
 
-  pub joined-lines : (rows : List ℕ) → programFits (length text) ends (length sheets) (length budgets) (length rows) ≡ true → lastEnd 0 ends ≡ length text
-      → linesOf (text ++ text′) joinedEnds (sheets ++ sheets′) (budgets ++ budgets′) ≡ linesOf text ends sheets budgets ++ linesOf text′ ends′ sheets′ budgets′
+  pub joined-lines : (rows : List ℕ) → programFits (length text) ends (length sheets) (length budgets) (length bases) (length rows) ≡ true → lastEnd 0 ends ≡ length text
+      → linesOf (text ++ text′) joinedEnds (sheets ++ sheets′) (budgets ++ budgets′) (bases ++ bases′) ≡ linesOf text ends sheets budgets bases ++ linesOf text′ ends′ sheets′ budgets′ bases′
   joined-lines rows ok whole =
-      let l = fitting (length text) ends (length sheets) (length budgets) (length rows) ok in
+      let l = fitting (length text) ends (length sheets) (length budgets) (length bases) (length rows) ok in
       let from : lastEnd 0 ends ≡ length text + 0 = whole ∙ omega arith in
-      lines-first text′ sheets′ budgets′ (map (λ e. length text + e) ends′) 0 text ends sheets budgets (l .fit) (l .size) (l .one-each)
-      ∙ ap (λ (ls : List Line). linesOf text ends sheets budgets ++ ls)
-      (ap (λ (n : ℕ). linesFrom n (text ++ text′) (map (λ e. length text + e) ends′) sheets′ budgets′) from ∙ lines-behind text text′ 0 ends′ sheets′ budgets′)
+      lines-first text′ sheets′ budgets′ bases′ (map (λ e. length text + e) ends′) 0 text ends sheets budgets bases (l .fit) (l .size) (l .one-each) (l .base-each)
+      ∙ ap (λ (ls : List Line). linesOf text ends sheets budgets bases ++ ls)
+      (ap (λ (n : ℕ). linesFrom n (text ++ text′) (map (λ e. length text + e) ends′) sheets′ budgets′ bases′) from ∙ lines-behind text text′ 0 ends′ sheets′ budgets′ bases′)
 
   module _ (order : Scene → List (ℕ × ℕ)) (t rows rows′ rows″ answers own : List ℕ) where
     abbrev first : ProgramTold
-    first = programWith order t text ends sheets budgets rows answers
+    first = programWith order t text ends sheets budgets bases rows answers
 
     abbrev second : ProgramTold
-    second = programWith order t text′ ends′ sheets′ budgets′ rows′ own
+    second = programWith order t text′ ends′ sheets′ budgets′ bases′ rows′ own
 
     abbrev joined : ProgramTold
-    joined = programWith order t (text ++ text′) joinedEnds (sheets ++ sheets′) (budgets ++ budgets′) rows″ answers
+    joined = programWith order t (text ++ text′) joinedEnds (sheets ++ sheets′) (budgets ++ budgets′) (bases ++ bases′) rows″ answers
 
     -- Two programs, neither refused, and joined not refused, the first's text all lines: if no line of the second lacks room by
     -- itself, and there is room for the words of both, the joined program has the first's rows and the second's, moved on by
     -- the first's words, and the words of the first and then of the second.
     pub programs-joined : tableFits t ≡ true
-        → programFits (length text) ends (length sheets) (length budgets) (length rows) ≡ true
-        → programFits (length text′) ends′ (length sheets′) (length budgets′) (length rows′) ≡ true
-        → programFits (length (text ++ text′)) joinedEnds (length (sheets ++ sheets′)) (length (budgets ++ budgets′)) (length rows″) ≡ true
+        → programFits (length text) ends (length sheets) (length budgets) (length bases) (length rows) ≡ true
+        → programFits (length text′) ends′ (length sheets′) (length budgets′) (length bases′) (length rows′) ≡ true
+        → programFits (length (text ++ text′)) joinedEnds (length (sheets ++ sheets′)) (length (budgets ++ budgets′)) (length (bases ++ bases′)) (length rows″) ≡ true
         → lastEnd 0 ends ≡ length text → NoneTooLong (second .rows) → first .told .words + second .told .words ≤ length answers
         → joined
         ≡ ranWhole
@@ -96,13 +98,13 @@ module _ (text ends sheets budgets : List ℕ) (text′ ends′ sheets′ budget
           answers = take (first .told .words) (first .told .buffer) ++ (take (second .told .words) (second .told .buffer) ++ drop (first .told .words + second .told .words) answers);
         })
     programs-joined ok fit fit′ fit″ whole none room =
-        let a = ran-whole order t text ends sheets budgets rows answers ok fit in
-        let b = ran-whole order t text′ ends′ sheets′ budgets′ rows′ own ok fit′ in
-        let c = ran-whole order t (text ++ text′) joinedEnds (sheets ++ sheets′) (budgets ++ budgets′) rows″ answers ok fit″ in
+        let a = ran-whole order t text ends sheets budgets bases rows answers ok fit in
+        let b = ran-whole order t text′ ends′ sheets′ budgets′ bases′ rows′ own ok fit′ in
+        let c = ran-whole order t (text ++ text′) joinedEnds (sheets ++ sheets′) (budgets ++ budgets′) (bases ++ bases′) rows″ answers ok fit″ in
         c
         ∙ ap (λ (ls : List Line). ranWhole (runLines (lineCall order t) ls 0 answers)) (joined-lines rows fit whole)
         ∙ ap ranWhole
-        (lines-roomy (lineCall order t) (λ x. call-shape order t (x .bytes) (x .sheet) (x .budget)) (linesOf text ends sheets budgets) (linesOf text′ ends′ sheets′ budgets′) answers own
+        (lines-roomy (lineCall order t) (λ x. call-shape order t (x .bytes) (x .sheet) (x .budget) (x .base)) (linesOf text ends sheets budgets bases) (linesOf text′ ends′ sheets′ budgets′ bases′) answers own
         (subst (λ (r : ProgramTold). NoneTooLong (r .rows)) b none)
         (subst (λ (n : ℕ). n ≤ length answers) (ap₂ (λ (r s : ProgramTold). r .told .words + s .told .words) a b) room))
         ∙ ap₂ (λ (r s : ProgramTold). ranWhole
@@ -115,31 +117,31 @@ module _ (text ends sheets budgets : List ℕ) (text′ ends′ sheets′ budget
 -- ---- what a program leaves unchanged
 
 -- the answers behind the words used
-pub program-rest : (order : Scene → List (ℕ × ℕ)) (t text ends sheets budgets answers : List ℕ)
-    → drop (runLines (lineCall order t) (linesOf text ends sheets budgets) 0 answers .words) (runLines (lineCall order t) (linesOf text ends sheets budgets) 0 answers .answers)
-    ≡ drop (runLines (lineCall order t) (linesOf text ends sheets budgets) 0 answers .words) answers
-program-rest order t text ends sheets budgets answers = lines-rest (lineCall order t) (λ x. call-shape order t (x .bytes) (x .sheet) (x .budget)) (linesOf text ends sheets budgets) answers
+pub program-rest : (order : Scene → List (ℕ × ℕ)) (t text ends sheets budgets bases answers : List ℕ)
+    → drop (runLines (lineCall order t) (linesOf text ends sheets budgets bases) 0 answers .words) (runLines (lineCall order t) (linesOf text ends sheets budgets bases) 0 answers .answers)
+    ≡ drop (runLines (lineCall order t) (linesOf text ends sheets budgets bases) 0 answers .words) answers
+program-rest order t text ends sheets budgets bases answers = lines-rest (lineCall order t) (λ x. call-shape order t (x .bytes) (x .sheet) (x .budget) (x .base)) (linesOf text ends sheets budgets bases) answers
 
 -- ---- one line
 
-module _ (order : Scene → List (ℕ × ℕ)) (t line sheet : List ℕ) (budget : ℕ) (rows answers : List ℕ) where
+module _ (order : Scene → List (ℕ × ℕ)) (t line sheet : List ℕ) (budget base : ℕ) (rows answers : List ℕ) where
   abbrev single : Told
-  single = callWith order t line sheet budget answers
+  single = callWith order t line sheet budget base answers
 
   -- the single call is the program of one line: its row has the call's number and 0, it uses the words that the call wrote,
   -- and the answers are the call's
   pub program-of-one : tableFits t ≡ true
-      → programFits (length line) (length line ∷ []) (length sheet) 1 (length rows) ≡ true
-      → programWith order t line (length line ∷ []) sheet (budget ∷ []) rows answers
+      → programFits (length line) (length line ∷ []) (length sheet) 1 1 (length rows) ≡ true
+      → programWith order t line (length line ∷ []) sheet (budget ∷ []) (base ∷ []) rows answers
       ≡ ranWhole (record { rows = single .number ∷ 0 ∷ []; words = taken single; answers = single .buffer })
   unfolding linesFrom runLines sheetsSize
   program-of-one ok fit =
-      let l = fitting (length line) (length line ∷ []) (length sheet) 1 (length rows) fit in
+      let l = fitting (length line) (length line ∷ []) (length sheet) 1 1 (length rows) fit in
       let size : sheetSize (length line - 0) ≡ length sheet = omega (arith, l .size) in
       let bytes : slice 0 (length line) line ≡ line = take-all (length line) line (omega arith) in
       let sheets : take (sheetSize (length line - 0)) sheet ≡ sheet = take-all (sheetSize (length line - 0)) sheet (omega arith) in
-      ran-whole order t line (length line ∷ []) sheet (budget ∷ []) rows answers ok fit
-      ∙ ap (λ (x : Line). ranWhole (runLines (lineCall order t) (x ∷ []) 0 answers)) (λ i. record { bytes = bytes i; sheet = sheets i; budget = budget })
+      ran-whole order t line (length line ∷ []) sheet (budget ∷ []) (base ∷ []) rows answers ok fit
+      ∙ ap (λ (x : Line). ranWhole (runLines (lineCall order t) (x ∷ []) 0 answers)) (λ i. record { bytes = bytes i; sheet = sheets i; budget = budget; base = base })
       ∙ λ i. ranWhole (record { rows = single .number ∷ 0 ∷ []; words = none-before i; answers = whole i })
     where
       none-before : 0 + taken single ≡ taken single

@@ -14,12 +14,12 @@ use borrow.Author.Tests.{ne-eqb}
 use Rattle.plain.specs.Choice.{select}
 use Rattle.plain.specs.Buffers.{atStart}
 use Rattle.plain.specs.Told.{Told}
-use Rattle.readings.specs.Scene.{Scene, sceneOf}
+use Rattle.readings.specs.Scene.{Scene, sceneOf, based}
 use Rattle.readings.specs.Walk.{tries}
 use Rattle.readings.specs.Answer.{answerWords}
 use Rattle.readings.specs.Call.{tree, written, callWith}
 use Rattle.readings.proofs.Calls as Calls
-use Rattle.readings.proofs.Numbers.{Case, table, bytes, extents, visits, walk, none-found, too-long, found, exactly, stop-numbers}
+use Rattle.readings.proofs.Numbers.{Case, table, bytes, extents, visits, starts, walk, none-found, too-long, found, exactly, stop-numbers}
 use Rattle.runs.specs.Program.{taken}
 use Rattle.runs.specs.Demand.{Kept}
 
@@ -30,32 +30,36 @@ pub data Shape (call : List ℕ → Told) : Type 0 where
   refusing : (n v p : ℕ) → (n ≡ 0 → ⊥) → (n ≡ 9 → ⊥) → ((b : List ℕ) → call b ≡ refusal n v p b) → Shape call
   answering : (v : ℕ) (ws : List ℕ) → ((b : List ℕ) → call b ≡ written v ws b) → Shape call
 
-module _ (order : Scene → List (ℕ × ℕ)) (t line sheet : List ℕ) (budget : ℕ) where
+module _ (order : Scene → List (ℕ × ℕ)) (t line sheet : List ℕ) (budget base : ℕ) where
   abbrev call : List ℕ → Told
-  call = callWith order t line sheet budget
+  call = callWith order t line sheet budget base
 
-  of-case : {n : ℕ} → Case order t line sheet budget [] n → Shape call
-  of-case (table e) = refusing 2 0 0 (λ q. omega arith) (λ q. omega arith) (λ b. Calls.bad-table order t line sheet budget b e)
-  of-case (bytes p e f) = refusing 3 0 p (λ q. omega arith) (λ q. omega arith) (λ b. Calls.bad-line order t line sheet budget b p e f)
-  of-case (extents e f g) = refusing 4 0 0 (λ q. omega arith) (λ q. omega arith) (λ b. Calls.bad-sheet order t line sheet budget b e f g)
-  of-case (visits e f g h) = refusing 5 0 0 (λ q. omega arith) (λ q. omega arith) (λ b. Calls.bad-budget order t line sheet budget b e f g h)
+  abbrev s : Scene
+  s = based base (sceneOf t line sheet)
+
+  of-case : {n : ℕ} → Case order t line sheet budget base [] n → Shape call
+  of-case (table e) = refusing 2 0 0 (λ q. omega arith) (λ q. omega arith) (λ b. Calls.bad-table order t line sheet budget base b e)
+  of-case (bytes p e f) = refusing 3 0 p (λ q. omega arith) (λ q. omega arith) (λ b. Calls.bad-line order t line sheet budget base b p e f)
+  of-case (extents e f g) = refusing 4 0 0 (λ q. omega arith) (λ q. omega arith) (λ b. Calls.bad-sheet order t line sheet budget base b e f g)
+  of-case (visits e f g h) = refusing 5 0 0 (λ q. omega arith) (λ q. omega arith) (λ b. Calls.bad-budget order t line sheet budget base b e f g h)
+  of-case (starts e f g h i) = refusing 19 0 0 (λ q. omega arith) (λ q. omega arith) (λ b. Calls.bad-base order t line sheet budget base b e f g h i)
   of-case (walk {n = n} left a e) =
-      let k = stop-numbers (tries (sceneOf t line sheet) (order (sceneOf t line sheet))) budget 0 e in
-      refusing n (budget - left) 0 (apart n k .0) (apart n k .1) (λ b. Calls.stopped order t line sheet budget b a n left e)
+      let k = stop-numbers (tries s (order s)) budget 0 e in
+      refusing n (budget - left) 0 (apart n k .0) (apart n k .1) (λ b. Calls.stopped order t line sheet budget base b a n left e)
     where
       apart : (n : ℕ) → (n ≡ 6) ⊎ ((n ≡ 7) ⊎ (n ≡ 8)) → (n ≡ 0 → ⊥) × (n ≡ 9 → ⊥)
       apart n (inl q) = (λ z. omega arith, λ z. omega arith)
       apart n (inr (inl q)) = (λ z. omega arith, λ z. omega arith)
       apart n (inr (inr q)) = (λ z. omega arith, λ z. omega arith)
   of-case (none-found left used a e) =
-      refusing 1 (budget - left) 0 (λ q. omega arith) (λ q. omega arith) (λ b. Calls.walked-through order t line sheet budget b a left used [] e)
+      refusing 1 (budget - left) 0 (λ q. omega arith) (λ q. omega arith) (λ b. Calls.walked-through order t line sheet budget base b a left used [] e)
   of-case (too-long left used m ms a e h) =
-      answering (budget - left) (answerWords (sceneOf t line sheet) (tree m ∷ map tree ms)) (λ b. Calls.walked-through order t line sheet budget b a left used (m ∷ ms) e)
+      answering (budget - left) (answerWords s (tree m ∷ map tree ms)) (λ b. Calls.walked-through order t line sheet budget base b a left used (m ∷ ms) e)
   of-case (found left used m ms a e h) =
-      answering (budget - left) (answerWords (sceneOf t line sheet) (tree m ∷ map tree ms)) (λ b. Calls.walked-through order t line sheet budget b a left used (m ∷ ms) e)
+      answering (budget - left) (answerWords s (tree m ∷ map tree ms)) (λ b. Calls.walked-through order t line sheet budget base b a left used (m ∷ ms) e)
 
   pub call-shape : Shape call
-  call-shape = of-case (exactly order t line sheet budget [] (call [] .number) .0 refl)
+  call-shape = of-case (exactly order t line sheet budget base [] (call [] .number) .0 refl)
 
 -- ---- what follows of the buffer
 

@@ -41,7 +41,7 @@ runLines call (x ∷ xs) used room =
 
 -- a line by the single call's own definition; the line's buffer is the room left
 abbrev pub lineCall : (Scene → List (ℕ × ℕ)) → List ℕ → Line → List ℕ → Told
-lineCall order t x room = callWith order t (x .bytes) (x .sheet) (x .budget) room
+lineCall order t x room = callWith order t (x .bytes) (x .sheet) (x .budget) (x .base) room
 
 -- what a program call tells, with the rows as it leaves them; the buffer is that of the answers
 pub record ProgramTold : Type 0 where
@@ -57,15 +57,15 @@ abbrev pub ranWhole : Ran → ProgramTold
 ranWhole ran = record { told = record { number = 0; visits = 0; words = ran .words; place = 0; buffer = ran .answers }; rows = ran .rows }
 
 -- the table is judged first, then all that is lent for the lines, before any line
-unfoldable pub programWith : (Scene → List (ℕ × ℕ)) → List ℕ → List ℕ → List ℕ → List ℕ → List ℕ → List ℕ → List ℕ → ProgramTold
-programWith order t text ends sheets budgets rows answers =
+unfoldable pub programWith : (Scene → List (ℕ × ℕ)) → List ℕ → List ℕ → List ℕ → List ℕ → List ℕ → List ℕ → List ℕ → List ℕ → ProgramTold
+programWith order t text ends sheets budgets bases rows answers =
     select (not (tableFits t)) (refusedWhole 2 rows answers)
-    (select (not (programFits (length text) ends (length sheets) (length budgets) (length rows))) (refusedWhole 17 rows answers)
-    (ranWhole (runLines (lineCall order t) (linesOf text ends sheets budgets) 0 answers)))
+    (select (not (programFits (length text) ends (length sheets) (length budgets) (length bases) (length rows))) (refusedWhole 17 rows answers)
+    (ranWhole (runLines (lineCall order t) (linesOf text ends sheets budgets bases) 0 answers)))
 
 -- by full scan, and by prefix lookup
-abbrev pub scanProgram : List ℕ → List ℕ → List ℕ → List ℕ → List ℕ → List ℕ → List ℕ → ProgramTold
+abbrev pub scanProgram : List ℕ → List ℕ → List ℕ → List ℕ → List ℕ → List ℕ → List ℕ → List ℕ → ProgramTold
 scanProgram = programWith topPairs
 
-abbrev pub lookupProgram : List ℕ → List ℕ → List ℕ → List ℕ → List ℕ → List ℕ → List ℕ → ProgramTold
+abbrev pub lookupProgram : List ℕ → List ℕ → List ℕ → List ℕ → List ℕ → List ℕ → List ℕ → List ℕ → ProgramTold
 lookupProgram = programWith (λ s. foundPairs s (linePrefix (s .line)))

@@ -45,8 +45,8 @@ module _ {answer a : ProgramAnswer} {r s : TholdrimashAnswer} where
   pub whole-of : answer ≡ a → r ≡ s → ((rows b : List ℕ) → toldWhole s rows b ≡ programSays a rows b) → (rows b : List ℕ) → toldWhole r rows b ≡ programSays answer rows b
   whole-of e q f rows b = ap (λ (x : TholdrimashAnswer). toldWhole x rows b) q ∙ f rows b ∙ sym (ap (λ (x : ProgramAnswer). programSays x rows b) e)
 
-pub program-reads-of : (t text ends sheets budgets answers : List ℕ) {r q : ProgramTold} → r ≡ q → ReadProgram t text ends sheets budgets answers q → ReadProgram t text ends sheets budgets answers r
-program-reads-of t text ends sheets budgets answers e d = subst (ReadProgram t text ends sheets budgets answers) (sym e) d
+pub program-reads-of : (t text ends sheets budgets bases answers : List ℕ) {r q : ProgramTold} → r ≡ q → ReadProgram t text ends sheets budgets bases answers q → ReadProgram t text ends sheets budgets bases answers r
+program-reads-of t text ends sheets budgets bases answers e d = subst (ReadProgram t text ends sheets budgets bases answers) (sym e) d
 
 pub program-tells-of : {r q : ProgramTold} {rows : List ℕ} {n : ℕ} → r ≡ q → (q .rows ≡ rows) × (q .told .words ≡ n) → (r .rows ≡ rows) × (r .told .words ≡ n)
 program-tells-of e (h, k) = (ap (λ (x : ProgramTold). x .rows) e ∙ h, ap (λ (x : ProgramTold). x .told .words) e ∙ k)

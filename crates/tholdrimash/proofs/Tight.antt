@@ -30,10 +30,10 @@ same-whole r s v w b c e = let (p, q) = same-told r s b c (λ i. e i .told) in (
 same-choice : (r s : TholdrimashSelection) (v w b c : List ℕ) → chose r v b ≡ chose s w c → (r ≡ s) × (v ≡ w) × (b ≡ c)
 same-choice r s v w b c e = (λ i. record { number = e i .number; count = e i .count }, (λ i. e i .words), λ i. e i .buffer)
 
-pub match-tight : (κs a : _) (r s : TholdrimashAnswer) (x y : _) → match.Post κs a r x → match.Post κs a s y → (r ≡ s) × (now (x .1 .1 .1 .1 .0) ≡ now (y .1 .1 .1 .1 .0))
+pub match-tight : (κs a : _) (r s : TholdrimashAnswer) (x y : _) → match.Post κs a r x → match.Post κs a s y → (r ≡ s) × (now (x .1 .1 .1 .1 .1 .0) ≡ now (y .1 .1 .1 .1 .1 .0))
 match-tight κs a r s x y p q = same-told r s _ _ (one-answer (p .0) (q .0))
 
-pub lookup-tight : (κs a : _) (r s : TholdrimashAnswer) (x y : _) → lookup.Post κs a r x → lookup.Post κs a s y → (r ≡ s) × (now (x .1 .1 .1 .1 .0) ≡ now (y .1 .1 .1 .1 .0))
+pub lookup-tight : (κs a : _) (r s : TholdrimashAnswer) (x y : _) → lookup.Post κs a r x → lookup.Post κs a s y → (r ≡ s) × (now (x .1 .1 .1 .1 .1 .0) ≡ now (y .1 .1 .1 .1 .1 .0))
 lookup-tight κs a r s x y p q = same-told r s _ _ (one-answer (p .0) (q .0))
 
 pub select-tight : (κs a : _) (r s : TholdrimashSelection) (x y : _) → select.Post κs a r x → select.Post κs a s y
@@ -50,9 +50,9 @@ pub fill-sheet-tight : (κs a : _) (r s : TholdrimashAnswer) (x y : _) → fill-
 fill-sheet-tight κs a r s x y p q = same-told r s _ _ (fill-call-one _ _ _ _ (p .0) (q .0))
 
 pub match-program-tight : (κs a : _) (r s : TholdrimashAnswer) (x y : _) → match-program.Post κs a r x → match-program.Post κs a s y
-    → (r ≡ s) × (now (x .1 .1 .1 .1 .1 .0) ≡ now (y .1 .1 .1 .1 .1 .0)) × (now (x .1 .1 .1 .1 .1 .1 .0) ≡ now (y .1 .1 .1 .1 .1 .1 .0))
+    → (r ≡ s) × (now (x .1 .1 .1 .1 .1 .1 .0) ≡ now (y .1 .1 .1 .1 .1 .1 .0)) × (now (x .1 .1 .1 .1 .1 .1 .1 .0) ≡ now (y .1 .1 .1 .1 .1 .1 .1 .0))
 match-program-tight κs a r s x y p q = same-whole r s _ _ _ _ (one-answer (p .0) (q .0))
 
 pub lookup-program-tight : (κs a : _) (r s : TholdrimashAnswer) (x y : _) → lookup-program.Post κs a r x → lookup-program.Post κs a s y
-    → (r ≡ s) × (now (x .1 .1 .1 .1 .1 .0) ≡ now (y .1 .1 .1 .1 .1 .0)) × (now (x .1 .1 .1 .1 .1 .1 .0) ≡ now (y .1 .1 .1 .1 .1 .1 .0))
+    → (r ≡ s) × (now (x .1 .1 .1 .1 .1 .1 .0) ≡ now (y .1 .1 .1 .1 .1 .1 .0)) × (now (x .1 .1 .1 .1 .1 .1 .1 .0) ≡ now (y .1 .1 .1 .1 .1 .1 .1 .0))
 lookup-program-tight κs a r s x y p q = same-whole r s _ _ _ _ (one-answer (p .0) (q .0))

@@ -16,7 +16,7 @@ ghost use lib.ListN.{length};
 ghost use Rattle.defs.specs.Table.{tableFits};
 ghost use Rattle.readings.specs.Call.{Accepted, scanCall, lookupCall};
 ghost use Rattle.readings.specs.Demand.{Within, Demand3};
-ghost use Rattle.readings.specs.Scene.{sceneOf};
+ghost use Rattle.readings.specs.Scene.{sceneOf, based};
 ghost use Rattle.trials.specs.Told.{says};
 ghost use Rattle.lines.specs.Lines.{linesOf, programFits};
 ghost use Rattle.runs.specs.Program.{scanProgram, lookupProgram};
@@ -65,6 +65,7 @@ fn fields(answer: Answer) -> TholdrimashAnswer
         Answer::BadLine { place } => answer_of(3, 0, 0, place),
         Answer::BadSheet => answer_of(4, 0, 0, 0),
         Answer::BadBudget => answer_of(5, 0, 0, 0),
+        Answer::BadBase => answer_of(19, 0, 0, 0),
         Answer::Spent { visits } => answer_of(6, visits, 0, 0),
         Answer::TooDeep { visits } => answer_of(7, visits, 0, 0),
         Answer::PoolFull { visits } => answer_of(8, visits, 0, 0),
@@ -79,12 +80,13 @@ pub extern "C" fn tholdrimash_match(
     line: &[u8],
     sheet: &[u8],
     budget: u32,
-    answer: &mut [u16],
+    base: u32,
+    answer: &mut [u32],
 ) -> TholdrimashAnswer
-    ensures answers { λ r. ⌜ told r (now (answer .exit)) ≡ scanCall (now (table .entry)) (now (line .entry)) (now (sheet .entry)) budget (now (answer .entry)) ⌝ }
-    ensures readings { λ r. ⌜ (Accepted (now (table .entry)) (now (line .entry)) (now (sheet .entry)) budget → Within (now (table .entry)) (now (line .entry)) (now (sheet .entry)) budget → Demand3 (sceneOf (now (table .entry)) (now (line .entry)) (now (sheet .entry))) (now (answer .entry)) (told r (now (answer .exit)))) ⌝ }
+    ensures answers { λ r. ⌜ told r (now (answer .exit)) ≡ scanCall (now (table .entry)) (now (line .entry)) (now (sheet .entry)) budget base (now (answer .entry)) ⌝ }
+    ensures readings { λ r. ⌜ (Accepted (now (table .entry)) (now (line .entry)) (now (sheet .entry)) budget base → Within (now (table .entry)) (now (line .entry)) (now (sheet .entry)) budget → Demand3 (based base (sceneOf (now (table .entry)) (now (line .entry)) (now (sheet .entry)))) (now (answer .entry)) (told r (now (answer .exit)))) ⌝ }
 {
-    fields(matcher::match_instr(table, line, sheet, budget, answer))
+    fields(matcher::match_instr(table, line, sheet, budget, base, answer))
 }
 
 // Prefix lookup.
@@ -94,14 +96,15 @@ pub extern "C" fn tholdrimash_lookup(
     line: &[u8],
     sheet: &[u8],
     budget: u32,
-    answer: &mut [u16],
+    base: u32,
+    answer: &mut [u32],
 ) -> TholdrimashAnswer
-    ensures answers { λ r. ⌜ told r (now (answer .exit)) ≡ lookupCall (now (table .entry)) (now (line .entry)) (now (sheet .entry)) budget (now (answer .entry)) ⌝ }
-    ensures readings { λ r. ⌜ (Accepted (now (table .entry)) (now (line .entry)) (now (sheet .entry)) budget → Within (now (table .entry)) (now (line .entry)) (now (sheet .entry)) budget → Demand3 (sceneOf (now (table .entry)) (now (line .entry)) (now (sheet .entry))) (now (answer .entry)) (told r (now (answer .exit)))) ⌝ }
-    ensures visits { λ r. ⌜ (Accepted (now (table .entry)) (now (line .entry)) (now (sheet .entry)) budget → Within (now (table .entry)) (now (line .entry)) (now (sheet .entry)) budget → r .visits ≤ scanCall (now (table .entry)) (now (line .entry)) (now (sheet .entry)) budget (now (answer .entry)) .visits) ⌝ }
-    ensures agrees { λ r. ⌜ (Accepted (now (table .entry)) (now (line .entry)) (now (sheet .entry)) budget → Within (now (table .entry)) (now (line .entry)) (now (sheet .entry)) budget → (r .number ≡ scanCall (now (table .entry)) (now (line .entry)) (now (sheet .entry)) budget (now (answer .entry)) .number) × (r .words ≡ scanCall (now (table .entry)) (now (line .entry)) (now (sheet .entry)) budget (now (answer .entry)) .words)) ⌝ }
+    ensures answers { λ r. ⌜ told r (now (answer .exit)) ≡ lookupCall (now (table .entry)) (now (line .entry)) (now (sheet .entry)) budget base (now (answer .entry)) ⌝ }
+    ensures readings { λ r. ⌜ (Accepted (now (table .entry)) (now (line .entry)) (now (sheet .entry)) budget base → Within (now (table .entry)) (now (line .entry)) (now (sheet .entry)) budget → Demand3 (based base (sceneOf (now (table .entry)) (now (line .entry)) (now (sheet .entry)))) (now (answer .entry)) (told r (now (answer .exit)))) ⌝ }
+    ensures visits { λ r. ⌜ (Accepted (now (table .entry)) (now (line .entry)) (now (sheet .entry)) budget base → Within (now (table .entry)) (now (line .entry)) (now (sheet .entry)) budget → r .visits ≤ scanCall (now (table .entry)) (now (line .entry)) (now (sheet .entry)) budget base (now (answer .entry)) .visits) ⌝ }
+    ensures agrees { λ r. ⌜ (Accepted (now (table .entry)) (now (line .entry)) (now (sheet .entry)) budget base → Within (now (table .entry)) (now (line .entry)) (now (sheet .entry)) budget → (r .number ≡ scanCall (now (table .entry)) (now (line .entry)) (now (sheet .entry)) budget base (now (answer .entry)) .number) × (r .words ≡ scanCall (now (table .entry)) (now (line .entry)) (now (sheet .entry)) budget base (now (answer .entry)) .words)) ⌝ }
 {
-    fields(matcher::match_with_ruledef_map(table, line, sheet, budget, answer))
+    fields(matcher::match_with_ruledef_map(table, line, sheet, budget, base, answer))
 }
 
 // Each case's number and count.
@@ -220,13 +223,14 @@ pub extern "C" fn tholdrimash_match_program(
     ends: &[u32],
     sheets: &[u8],
     budgets: &[u32],
+    bases: &[u32],
     rows: &mut [u32],
-    answers: &mut [u16],
+    answers: &mut [u32],
 ) -> TholdrimashAnswer
-    ensures answers { λ r. ⌜ toldWhole r (now (rows .exit)) (now (answers .exit)) ≡ scanProgram (now (table .entry)) (now (text .entry)) (now (ends .entry)) (now (sheets .entry)) (now (budgets .entry)) (now (rows .entry)) (now (answers .entry)) ⌝ }
-    ensures readings { λ r. ⌜ (tableFits (now (table .entry)) ≡ true → programFits (length (now (text .entry))) (now (ends .entry)) (length (now (sheets .entry))) (length (now (budgets .entry))) (length (now (rows .entry))) ≡ true → ReadProgram (now (table .entry)) (now (text .entry)) (now (ends .entry)) (now (sheets .entry)) (now (budgets .entry)) (now (answers .entry)) (toldWhole r (now (rows .exit)) (now (answers .exit)))) ⌝ }
+    ensures answers { λ r. ⌜ toldWhole r (now (rows .exit)) (now (answers .exit)) ≡ scanProgram (now (table .entry)) (now (text .entry)) (now (ends .entry)) (now (sheets .entry)) (now (budgets .entry)) (now (bases .entry)) (now (rows .entry)) (now (answers .entry)) ⌝ }
+    ensures readings { λ r. ⌜ (tableFits (now (table .entry)) ≡ true → programFits (length (now (text .entry))) (now (ends .entry)) (length (now (sheets .entry))) (length (now (budgets .entry))) (length (now (bases .entry))) (length (now (rows .entry))) ≡ true → ReadProgram (now (table .entry)) (now (text .entry)) (now (ends .entry)) (now (sheets .entry)) (now (budgets .entry)) (now (bases .entry)) (now (answers .entry)) (toldWhole r (now (rows .exit)) (now (answers .exit)))) ⌝ }
 {
-    program_fields(program::match_program(table, text, ends, sheets, budgets, rows, answers))
+    program_fields(program::match_program(table, text, ends, sheets, budgets, bases, rows, answers))
 }
 
 // A whole program by prefix lookup.
@@ -237,12 +241,22 @@ pub extern "C" fn tholdrimash_lookup_program(
     ends: &[u32],
     sheets: &[u8],
     budgets: &[u32],
+    bases: &[u32],
     rows: &mut [u32],
-    answers: &mut [u16],
+    answers: &mut [u32],
 ) -> TholdrimashAnswer
-    ensures answers { λ r. ⌜ toldWhole r (now (rows .exit)) (now (answers .exit)) ≡ lookupProgram (now (table .entry)) (now (text .entry)) (now (ends .entry)) (now (sheets .entry)) (now (budgets .entry)) (now (rows .entry)) (now (answers .entry)) ⌝ }
-    ensures readings { λ r. ⌜ (tableFits (now (table .entry)) ≡ true → programFits (length (now (text .entry))) (now (ends .entry)) (length (now (sheets .entry))) (length (now (budgets .entry))) (length (now (rows .entry))) ≡ true → ReadProgram (now (table .entry)) (now (text .entry)) (now (ends .entry)) (now (sheets .entry)) (now (budgets .entry)) (now (answers .entry)) (toldWhole r (now (rows .exit)) (now (answers .exit)))) ⌝ }
-    ensures agrees { λ r. ⌜ (AllWithin (now (table .entry)) (linesOf (now (text .entry)) (now (ends .entry)) (now (sheets .entry)) (now (budgets .entry))) → (now (rows .exit) ≡ scanProgram (now (table .entry)) (now (text .entry)) (now (ends .entry)) (now (sheets .entry)) (now (budgets .entry)) (now (rows .entry)) (now (answers .entry)) .rows) × (r .words ≡ scanProgram (now (table .entry)) (now (text .entry)) (now (ends .entry)) (now (sheets .entry)) (now (budgets .entry)) (now (rows .entry)) (now (answers .entry)) .told .words)) ⌝ }
+    ensures answers { λ r. ⌜ toldWhole r (now (rows .exit)) (now (answers .exit)) ≡ lookupProgram (now (table .entry)) (now (text .entry)) (now (ends .entry)) (now (sheets .entry)) (now (budgets .entry)) (now (bases .entry)) (now (rows .entry)) (now (answers .entry)) ⌝ }
+    ensures readings { λ r. ⌜ (tableFits (now (table .entry)) ≡ true → programFits (length (now (text .entry))) (now (ends .entry)) (length (now (sheets .entry))) (length (now (budgets .entry))) (length (now (bases .entry))) (length (now (rows .entry))) ≡ true → ReadProgram (now (table .entry)) (now (text .entry)) (now (ends .entry)) (now (sheets .entry)) (now (budgets .entry)) (now (bases .entry)) (now (answers .entry)) (toldWhole r (now (rows .exit)) (now (answers .exit)))) ⌝ }
+    ensures agrees { λ r. ⌜ (AllWithin (now (table .entry)) (linesOf (now (text .entry)) (now (ends .entry)) (now (sheets .entry)) (now (budgets .entry)) (now (bases .entry))) → (now (rows .exit) ≡ scanProgram (now (table .entry)) (now (text .entry)) (now (ends .entry)) (now (sheets .entry)) (now (budgets .entry)) (now (bases .entry)) (now (rows .entry)) (now (answers .entry)) .rows) × (r .words ≡ scanProgram (now (table .entry)) (now (text .entry)) (now (ends .entry)) (now (sheets .entry)) (now (budgets .entry)) (now (bases .entry)) (now (rows .entry)) (now (answers .entry)) .told .words)) ⌝ }
 {
-    program_fields(program::lookup_program(table, text, ends, sheets, budgets, rows, answers))
+    program_fields(program::lookup_program(
+        table,
+        text,
+        ends,
+        sheets,
+        budgets,
+        bases,
+        rows,
+        answers,
+    ))
 }

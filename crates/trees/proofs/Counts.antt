@@ -1,24 +1,18 @@
 -- Exact counts add up, and look only at the table's parts.
-use mathlib.Core.Path.{_≡_, refl, ap}
+use mathlib.Core.Path.{_≡_, refl}
 use mathlib.Core.List.{List, []}
 use Prim.Native.Nat.{ℕ, _+_}
 use native.Mathlib.Omega.{arith}
-use Rattle.readings.specs.Tree.{Tree, node, Args, end, expr, nest}
-use Rattle.readings.specs.Answer.{exactParts, exactCount, nestedCount}
+use Rattle.readings.specs.Tree.{Tree, Args, end, expr, nest}
+use Rattle.readings.specs.Answer.{exactCount, nestedCount}
 use Rattle.readings.specs.Scene.{Scene, sceneOf}
+use Rattle.readings.proofs.Moved.{count-by}
 use Rattle.trees.proofs.Arguments.{joined}
 use Rattle.trees.proofs.Sizes.{Sized}
 
-mutual
-  unfolding sceneOf
-
-  pub count-free : (t line sheet : List ℕ) (u : Tree) → exactCount (sceneOf t line sheet) u ≡ exactCount (sceneOf t [] []) u
-  count-free t line sheet (node r k a) = ap (λ (n : ℕ). exactParts (sceneOf t [] [] .parts r k) + n) (nested-free t line sheet a)
-
-  nested-free : (t line sheet : List ℕ) (a : Args) → nestedCount (sceneOf t line sheet) a ≡ nestedCount (sceneOf t [] []) a
-  nested-free t line sheet end = refl
-  nested-free t line sheet (expr x y a) = nested-free t line sheet a
-  nested-free t line sheet (nest x y u a) = omega (arith, count-free t line sheet u, nested-free t line sheet a)
+pub count-free : (t line sheet : List ℕ) (u : Tree) → exactCount (sceneOf t line sheet) u ≡ exactCount (sceneOf t [] []) u
+unfolding sceneOf
+count-free t line sheet u = count-by (sceneOf t line sheet) (sceneOf t [] []) refl u
 
 count-joined : (s : Scene) (a b : Args) → nestedCount s (joined a b) ≡ nestedCount s a + nestedCount s b
 count-joined s end b = omega arith

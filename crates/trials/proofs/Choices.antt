@@ -12,7 +12,7 @@ use Rattle.defs.specs.Ruledef.{startsOf}
 use Rattle.ruledef_map.specs.RuledefMap.{linePrefix, heldPrefix, prefixBytes, topRules, foundRules, putRules}
 use Rattle.ruledef_map.specs.declared.Prefix.{Prefix}
 use Rattle.ruledef_map.proofs.Orders.{put-all}
-use Rattle.readings.specs.Scene.{Scene, sceneOf}
+use Rattle.readings.specs.Scene.{Scene, sceneOf, based}
 use Rattle.readings.specs.Walk.{topPairs}
 use Rattle.readings.specs.Lookup.{foundPairs}
 use Rattle.readings.specs.Records.{pairOf}
@@ -69,15 +69,16 @@ module _ (t line : List ℕ) (ok : tableFits t ≡ true) where
 
   -- ---- the call that tries them is the scan's, or lookup's
 
-  module _ (sheet : List ℕ) (budget : ℕ) (rules b : List ℕ) where
-    call-listed : (order : Scene → List (ℕ × ℕ)) → map (pairOf t) rules ≡ order (sceneOf t line sheet)
-        → listedCall (map (pairOf t) rules) t line sheet budget b ≡ callWith order t line sheet budget b
+  module _ (sheet : List ℕ) (budget base : ℕ) (rules b : List ℕ) where
+    call-listed : (order : Scene → List (ℕ × ℕ)) → map (pairOf t) rules ≡ order (based base (sceneOf t line sheet))
+        → listedCall (map (pairOf t) rules) t line sheet budget base b ≡ callWith order t line sheet budget base b
     unfolding callWith
-    call-listed order e = ap (λ (xs : List (ℕ × ℕ)). listedCall xs t line sheet budget b) e
+    call-listed order e = ap (λ (xs : List (ℕ × ℕ)). listedCall xs t line sheet budget base b) e
 
-    pub tops-call : rules ≡ topRules t → listedCall (map (pairOf t) rules) t line sheet budget b ≡ scanCall t line sheet budget b
+    pub tops-call : rules ≡ topRules t → listedCall (map (pairOf t) rules) t line sheet budget base b ≡ scanCall t line sheet budget base b
+    unfolding topPairs based
     tops-call e = call-listed topPairs (ap (map (pairOf t)) e ∙ sym (top-pairs t line sheet ok))
 
-    pub found-call : rules ≡ foundRules t (linePrefix line) → listedCall (map (pairOf t) rules) t line sheet budget b ≡ lookupCall t line sheet budget b
-    unfolding sceneOf
+    pub found-call : rules ≡ foundRules t (linePrefix line) → listedCall (map (pairOf t) rules) t line sheet budget base b ≡ lookupCall t line sheet budget base b
+    unfolding topPairs sceneOf based
     found-call e = call-listed (λ s. foundPairs s (linePrefix (s .line))) (ap (map (pairOf t)) e ∙ sym (found-pairs t line sheet ok (linePrefix line)))

@@ -9,7 +9,7 @@ use Rattle.plain.specs.Told.{Told}
 use Rattle.defs.specs.Table.{tableFits}
 use Rattle.ruledef_map.specs.RuledefMap.{linePrefix, heldPrefix, prefixBytes, topRules, foundRules, putRules}
 use Rattle.ruledef_map.specs.declared.Prefix.{Prefix}
-use Rattle.readings.specs.Scene.{Scene, Lawful, sceneOf}
+use Rattle.readings.specs.Scene.{Scene, Lawful, sceneOf, based}
 use Rattle.readings.specs.Records.{pairOf}
 use Rattle.readings.specs.Call.{callWith}
 use Rattle.readings.proofs.Calls.{bad-table}
@@ -38,14 +38,14 @@ module _ (t line buffer b : List ℕ) (n : ℕ) (how : Order) (ok : tableFits t 
 
 -- ---- the whole call
 
-module _ (how : Order) (t line sheet : List ℕ) (budget : ℕ) (b : List ℕ) where
-  pub table-refused : tableFits t ≡ false → says BadTable b ≡ callWith (orderOf how) t line sheet budget b
-  table-refused e = sym (bad-table (orderOf how) t line sheet budget b e)
+module _ (how : Order) (t line sheet : List ℕ) (budget base : ℕ) (b : List ℕ) where
+  pub table-refused : tableFits t ≡ false → says BadTable b ≡ callWith (orderOf how) t line sheet budget base b
+  table-refused e = sym (bad-table (orderOf how) t line sheet budget base b e)
 
   module _ (ok : tableFits t ≡ true) where
-    pub line-refused : {r : Checked} {a : Answer} → r ≡ checkedOf line sheet budget → r ≡ Bad a → says a b ≡ callWith (orderOf how) t line sheet budget b
+    pub line-refused : {r : Checked} {a : Answer} → r ≡ checkedOf line sheet budget base → r ≡ Bad a → says a b ≡ callWith (orderOf how) t line sheet budget base b
     unfolding callWith
-    line-refused c e = refused-tells line sheet budget c e t ok (orderOf how (sceneOf t line sheet)) b
+    line-refused c e = refused-tells line sheet budget base c e t ok (orderOf how (based base (sceneOf t line sheet))) b
 
     pub chosen-by : (rules : List ℕ) → rules ≡ rulesOf how t line → Chosen t line rules
     chosen-by rules e = go how e
@@ -54,17 +54,17 @@ module _ (how : Order) (t line sheet : List ℕ) (budget : ℕ) (b : List ℕ) w
         go Scan q = all-tops q
         go Lookup q = by-prefix q
 
-    pub line-told : (rules : List ℕ) (r : Told) → rules ≡ rulesOf how t line → r ≡ listedCall (map (pairOf t) rules) t line sheet budget b
-        → r ≡ callWith (orderOf how) t line sheet budget b
+    pub line-told : (rules : List ℕ) (r : Told) → rules ≡ rulesOf how t line → r ≡ listedCall (map (pairOf t) rules) t line sheet budget base b
+        → r ≡ callWith (orderOf how) t line sheet budget base b
     line-told rules r e q = q ∙ go how e
       where
-        go : (h : Order) → rules ≡ rulesOf h t line → listedCall (map (pairOf t) rules) t line sheet budget b ≡ callWith (orderOf h) t line sheet budget b
-        go Scan p = tops-call t line ok sheet budget rules b p
-        go Lookup p = found-call t line ok sheet budget rules b p
+        go : (h : Order) → rules ≡ rulesOf h t line → listedCall (map (pairOf t) rules) t line sheet budget base b ≡ callWith (orderOf h) t line sheet budget base b
+        go Scan p = tops-call t line ok sheet budget base rules b p
+        go Lookup p = found-call t line ok sheet budget base rules b p
 
   -- what a call tells of words fits 32 bits, 256 times over
-  pub call-few : callWith (orderOf how) t line sheet budget b .words ≤ 12589058
-  call-few = Bounds.call-words (orderOf how) (λ s law. enough how s law) t line sheet budget b
+  pub call-few : callWith (orderOf how) t line sheet budget base b .words ≤ 12589058
+  call-few = Bounds.call-words (orderOf how) (λ s law. enough how s law) t line sheet budget base b
     where
       enough : (h : Order) (s : Scene) → Lawful s → Enough s (orderOf h s)
       enough Scan s law = scan-enough s law

@@ -2,38 +2,38 @@
 -- The matches of depth 0 in the log are those that the plan lists, so the call's definition applies to them.
 use mathlib.Core.Path.{_≡_, refl, sym, ap, subst, _∙_}
 use mathlib.Core.Bool.{true}
-use mathlib.Core.List.{List, [], _∷_, _++_, map, List·Memᴰ, List·Memᴰ·not-nil}
+use mathlib.Core.List.{List, [], _∷_, _++_, map, List·Memᴰ, List·Memᴰ·not-nil, Memᴰ·map}
 use Prim.Native.Nat.{ℕ, _+_, _-_, _≤_, _<_}
 use native.Mathlib.Omega.{arith}
 use lib.Dec.{eqb}
 use lib.ListN.{length, take, drop}
 use borrow.Author.Tests.{eq-eqb}
-use Rattle.plain.specs.Choice.{select}
 use Rattle.plain.specs.Lists.{keepIf}
 use Rattle.plain.specs.Told.{Told}
 use Rattle.plain.proofs.Members.{kept-has}
 use Rattle.ruledef_map.specs.RuledefMap.{linePrefix}
 use Rattle.defs.specs.Table.{tableFits}
-use Rattle.readings.specs.Tree.{Tree}
-use Rattle.readings.specs.Scene.{Scene, Lawful, sceneOf}
-use Rattle.readings.specs.Plan.{Outcome, stop, run}
-use Rattle.readings.specs.Walk.{Match, tries}
+use Rattle.readings.specs.Tree.{Tree, moved}
+use Rattle.readings.specs.Scene.{Scene, Lawful, sceneOf, based}
+use Rattle.readings.specs.Plan.{Outcome, done, stop, run}
+use Rattle.readings.specs.Walk.{Match, topPairs, tries}
 use Rattle.readings.specs.Records.{pairOf}
-use Rattle.readings.specs.Answer.{exactCount, greatest, greatestCount, best, treeWords, wordsOf, answerWords}
-use Rattle.readings.specs.Call.{Accepted, tree, stoppedAfter, matched, written}
-use Rattle.readings.proofs.Packed.{lawful}
-use Rattle.readings.proofs.Runs.{run-done, stop-left}
+use Rattle.readings.specs.Answer.{exactCount, greatestCount, best, treeWords, answerWords}
+use Rattle.readings.specs.Call.{Accepted, tree, stoppedAfter, matched, written, baseFits}
+use Rattle.readings.proofs.Packed.{lawful, lawful-based}
+use Rattle.readings.proofs.Runs.{run-done, stop-left, mappedEnd}
+use Rattle.readings.proofs.Moved.{movedMatch, run-based, trees-moved, many-moved, words-by}
 use Rattle.readings.proofs.Scan.{Enough, scan-enough}
 use Rattle.readings.proofs.Lookups.{lookup-enough}
 use Rattle.readings.proofs.Best.{reached}
-use Rattle.readings.proofs.Bounds.{small, tree-few, words-few}
+use Rattle.readings.proofs.Bounds.{Small, small, tree-few, tree-fit, words-few}
 use Rattle.readings.proofs.Calls as Calls
 use Rattle.readings.proofs.Records.{top-pairs, found-pairs}
 use Rattle.pool.specs.declared.Pool.{Pool}
 use Rattle.pool.specs.Meaning.{gathered, meaning, meanings}
 use Rattle.pool.proofs.Meanings.{meanings-more}
 use Rattle.trees.proofs.Counts.{count-free}
-use Rattle.answer.specs.Measured.{treesIn, measured}
+use Rattle.answer.specs.Measured.{treesIn, measured, FitFrom}
 use Rattle.answer.specs.declared.Measure.{Measure}
 use Rattle.trials.specs.declared.Answer.{Answer}
 use Rattle.trials.specs.declared.Answer.the-variants.{Matched, NoMatch, TooLong}
@@ -45,31 +45,15 @@ use Rattle.walk.specs.Met.{numberOf}
 use Rattle.trials.proofs.Choices.{chosen-at}
 use Rattle.trials.specs.Told.{says, listedCall, triedPairs, Chosen, all-tops, by-prefix, Listed, Tried, listed, stopped, TryAsked, TellAsked, ReadAsked, stoppedBy}
 
--- ---- the scene's line and sheet do not matter to the answer's words
+-- ---- the scene's line, sheet and base do not matter to the answer's words
 
-module _ (t line sheet : List ℕ) where
-  counts-free : (us : List Tree) → map (exactCount (sceneOf t line sheet)) us ≡ map (exactCount (sceneOf t [] [])) us
-  counts-free [] = refl
-  counts-free (u ∷ us) = λ i. count-free t line sheet u i ∷ counts-free us i
+words-free : (t line sheet : List ℕ) (base : ℕ) (us : List Tree) → answerWords (based base (sceneOf t line sheet)) us ≡ answerWords (sceneOf t [] []) us
+unfolding sceneOf based
+words-free t line sheet base us = words-by (based base (sceneOf t line sheet)) (sceneOf t [] []) refl us
 
-  greatest-free : (us : List Tree) → greatestCount (sceneOf t line sheet) us ≡ greatestCount (sceneOf t [] []) us
-  unfolding greatestCount
-  greatest-free us = ap greatest (counts-free us)
-
-  kept-free : (g : ℕ) (us : List Tree) → keepIf (λ u. eqb (exactCount (sceneOf t line sheet) u) g) us ≡ keepIf (λ u. eqb (exactCount (sceneOf t [] []) u) g) us
-  unfolding keepIf
-  kept-free g [] = refl
-  kept-free g (u ∷ us) = λ i. select (eqb (count-free t line sheet u i) g) (u ∷ kept-free g us i) (kept-free g us i)
-
-  words-free : (us : List Tree) → answerWords (sceneOf t line sheet) us ≡ answerWords (sceneOf t [] []) us
-  unfolding best
-  words-free us =
-      ap (λ (g : ℕ). wordsOf g (keepIf (λ u. eqb (exactCount (sceneOf t line sheet) u) g) us)) (greatest-free us)
-      ∙ ap (wordsOf (greatestCount (sceneOf t [] []) us)) (kept-free (greatestCount (sceneOf t [] []) us) us)
-
-  matched-free : (v : ℕ) (us : List Tree) (b : List ℕ) → matched (sceneOf t line sheet) v us b ≡ matched (sceneOf t [] []) v us b
-  matched-free v [] b = refl
-  matched-free v (u ∷ us) b = ap (λ (ws : List ℕ). written v ws b) (words-free (u ∷ us))
+matched-free : (t line sheet : List ℕ) (base v : ℕ) (us : List Tree) (b : List ℕ) → matched (based base (sceneOf t line sheet)) v us b ≡ matched (sceneOf t [] []) v us b
+matched-free t line sheet base v [] b = refl
+matched-free t line sheet base v (u ∷ us) b = ap (λ (ws : List ℕ). written v ws b) (words-free t line sheet base (u ∷ us))
 
 -- ---- the matches told
 
@@ -83,9 +67,13 @@ best-some s t ts e =
     none [] e m = List·Memᴰ·not-nil m
     none (u ∷ us) e m = omega arith
 
-module _ (t : List ℕ) (ts : List Tree) (v : ℕ) (b : List ℕ) (found : Measure) (is : found ≡ measured t ts) where
+module _ (t : List ℕ) (base : ℕ) (ts : List Tree) (v : ℕ) (b : List ℕ) (found : Measure) (is : found ≡ measured t ts) where
   abbrev s : Scene
   s = sceneOf t [] []
+
+  -- as the answer has them
+  abbrev placed : List Tree
+  placed = map (moved base) ts
 
   count-of : found .matches ≡ length (best s ts)
   unfolding measured
@@ -95,38 +83,43 @@ module _ (t : List ℕ) (ts : List Tree) (v : ℕ) (b : List ℕ) (found : Measu
   unfolding measured
   words-of = ap (λ (m : Measure). m .words) is
 
-  pub tell-none : found .matches ≡ 0 → says (NoMatch v) b ≡ matched s v ts b
+  words-placed : found .words ≡ length (answerWords s placed)
+  words-placed = words-of ∙ sym (many-moved s base ts)
+
+  pub tell-none : found .matches ≡ 0 → says (NoMatch v) b ≡ matched s v placed b
   tell-none e = go ts (sym count-of ∙ e)
     where
-      go : (ts : List Tree) → length (best s ts) ≡ 0 → says (NoMatch v) b ≡ matched s v ts b
+      go : (ts : List Tree) → length (best s ts) ≡ 0 → says (NoMatch v) b ≡ matched s v (map (moved base) ts) b
       go [] e = refl
       go (u ∷ us) e = absurd (best-some s u us e)
 
-  some-match : (found .matches ≡ 0 → ⊥) → matched s v ts b ≡ written v (answerWords s ts) b
+  some-match : (found .matches ≡ 0 → ⊥) → matched s v placed b ≡ written v (answerWords s placed) b
   unfolding best keepIf
   some-match ne = go ts (λ e. ne (count-of ∙ e))
     where
-      go : (ts : List Tree) → (length (best s ts) ≡ 0 → ⊥) → matched s v ts b ≡ written v (answerWords s ts) b
+      go : (ts : List Tree) → (length (best s ts) ≡ 0 → ⊥) → matched s v (map (moved base) ts) b ≡ written v (answerWords s (map (moved base) ts)) b
       go [] ne = absurd (ne refl)
       go (u ∷ us) ne = refl
 
   module _ (ne : found .matches ≡ 0 → ⊥) where
-    pub tell-long : length b < found .words → says (TooLong v (found .words)) b ≡ matched s v ts b
-    tell-long h = ap (λ (n : ℕ). says (TooLong v n) b) words-of ∙ sym (some-match ne ∙ Calls.short s v b (answerWords s ts) (omega (arith, words-of)))
+    pub tell-long : length b < found .words → says (TooLong v (found .words)) b ≡ matched s v placed b
+    tell-long h = ap (λ (n : ℕ). says (TooLong v n) b) words-placed ∙ sym (some-match ne ∙ Calls.short s v b (answerWords s placed) (omega (arith, words-placed)))
 
-    pub tell-matched : (b′ : List ℕ) → found .words ≤ length b → b′ ≡ answerWords s ts ++ drop (length (answerWords s ts)) b → says (Matched v (found .words)) b′ ≡ matched s v ts b
+    pub tell-matched : (b′ : List ℕ) → found .words ≤ length b → b′ ≡ answerWords s placed ++ drop (length (answerWords s placed)) b → says (Matched v (found .words)) b′ ≡ matched s v placed b
     tell-matched b′ h e =
-        ap (λ (n : ℕ). says (Matched v n) b′) words-of ∙ ap (says (Matched v (length (answerWords s ts)))) e
-        ∙ sym (some-match ne ∙ Calls.fits s v b (answerWords s ts) (omega (arith, words-of)))
+        ap (λ (n : ℕ). says (Matched v n) b′) words-placed ∙ ap (says (Matched v (length (answerWords s placed)))) e
+        ∙ sym (some-match ne ∙ Calls.fits s v b (answerWords s placed) (omega (arith, words-placed)))
 
 -- ---- the whole call
 
-chosen-enough : (t line sheet rules : List ℕ) → tableFits t ≡ true → Lawful (sceneOf t line sheet) → Chosen t line rules → Enough (sceneOf t line sheet) (map (pairOf t) rules)
-unfolding sceneOf
-chosen-enough t line sheet rules ok law (all-tops e) =
-    subst (Enough (sceneOf t line sheet)) (top-pairs t line sheet ok ∙ ap (map (pairOf t)) (sym e)) (scan-enough (sceneOf t line sheet) law)
-chosen-enough t line sheet rules ok law (by-prefix e) =
-    subst (Enough (sceneOf t line sheet)) (found-pairs t line sheet ok (linePrefix line) ∙ ap (map (pairOf t)) (sym e)) (lookup-enough (sceneOf t line sheet) law)
+module _ (t line sheet rules : List ℕ) (base : ℕ) (ok : tableFits t ≡ true) (law : Lawful (based base (sceneOf t line sheet))) where
+  abbrev here : Scene
+  here = based base (sceneOf t line sheet)
+
+  chosen-enough : Chosen t line rules → Enough here (map (pairOf t) rules)
+  unfolding topPairs sceneOf based
+  chosen-enough (all-tops e) = subst (Enough here) (top-pairs t line sheet ok ∙ ap (map (pairOf t)) (sym e)) (scan-enough here law)
+  chosen-enough (by-prefix e) = subst (Enough here) (found-pairs t line sheet ok (linePrefix line) ∙ ap (map (pairOf t)) (sym e)) (lookup-enough here law)
 
 pub listed-by : {o : Outcome (List Match)} {store : List ℕ} {r : Walked} {left : ℕ} {pool : Pool} → Tried o store r → r ≡ Done left pool → Listed o store left pool
 listed-by {o} {store} m e = go (subst (Tried o store) e m)
@@ -140,12 +133,20 @@ stopped-by {o} {store} m e = go (subst (Tried o store) e m)
     go : {why : Refusal} {left : ℕ} → Tried o store (Stopped why left) → o ≡ stop (numberOf why) left
     go (stopped x) = x
 
-module _ {t line sheet starts places store₀ rules : List ℕ} {count budget : ℕ} (asked : ReadAsked t line sheet starts places store₀ rules count budget) where
-  ok : Accepted t line sheet budget
-  ok = record { table = asked .table; bytes = asked .lined .bytes; extents = asked .lined .extents; visits = asked .lined .visits }
+module _ {t line sheet starts places store₀ rules : List ℕ} {count budget base : ℕ} (asked : ReadAsked t line sheet starts places store₀ rules count budget base) where
+  ok : Accepted t line sheet budget base
+  ok = record { table = asked .table; bytes = asked .lined .bytes; extents = asked .lined .extents; visits = asked .lined .visits; starts = asked .lined .starts }
 
+  -- the walk counts places from the line's start
   abbrev scene : Scene
   scene = sceneOf t line sheet
+
+  abbrev placed-scene : Scene
+  placed-scene = based base scene
+
+  ok-alone : Accepted t line sheet budget 0
+  unfolding baseFits
+  ok-alone = record { table = ok .table; bytes = ok .bytes; extents = ok .extents; visits = ok .visits; starts = refl }
 
   abbrev pairs : List (ℕ × ℕ)
   pairs = triedPairs t rules count
@@ -153,12 +154,28 @@ module _ {t line sheet starts places store₀ rules : List ℕ} {count budget : 
   abbrev walked : Outcome (List Match)
   walked = run (tries scene pairs) budget 0
 
+  law : Lawful scene
+  law = lawful t line sheet (ok .extents)
+
+  law-placed : Lawful placed-scene
+  law-placed = lawful-based base law
+
+  -- alone is at base 0
   enough : Enough scene pairs
-  enough = chosen-enough t line sheet (take count rules) (asked .table) (lawful t line sheet (ok .extents)) (asked .chosen)
+  unfolding sceneOf based
+  enough = chosen-enough t line sheet (take count rules) 0 (asked .table) (lawful-based 0 law) (asked .chosen)
+
+  small-alone : Small scene
+  unfolding sceneOf based
+  small-alone = small t line sheet budget 0 ok-alone
+
+  words-alone : (us : List Tree) → answerWords scene us ≡ answerWords (sceneOf t [] []) us
+  unfolding sceneOf based
+  words-alone us = words-free t line sheet 0 us
 
   pub try-asked : TryAsked t line sheet starts places store₀ rules count budget
   try-asked = record {
-    accepted = ok;
+    accepted = ok-alone;
     begins = asked .begins;
     placed = asked .placed;
     sized = asked .sized;
@@ -175,15 +192,12 @@ module _ {t line sheet starts places store₀ rules : List ℕ} {count budget : 
     pub call-within : left ≤ budget
     call-within = stop-left (tries scene pairs) budget 0 e
 
-    pub call-stopped : (a : Answer) (v : ℕ) (b : List ℕ) → v ≡ budget - left → a ≡ stoppedBy why v → says a b ≡ listedCall pairs t line sheet budget b
+    pub call-stopped : (a : Answer) (v : ℕ) (b : List ℕ) → v ≡ budget - left → a ≡ stoppedBy why v → says a b ≡ listedCall pairs t line sheet budget base b
     call-stopped a v b n q =
         ap (λ (x : Answer). says x b) q ∙ says-stopped why v b ∙ ap (λ (k : ℕ). stoppedAfter (numberOf why) k b) n
-        ∙ sym (Calls.stopped (λ s. pairs) t line sheet budget b ok (numberOf why) left e)
+        ∙ sym (Calls.stopped (λ s. pairs) t line sheet budget base b ok (numberOf why) left (run-based t line sheet base pairs budget 0 ∙ ap (mappedEnd (movedMatch base)) e))
 
   module _ {store : List ℕ} {left : ℕ} {pool : Pool} (l : Listed walked store left pool) where
-    law : Lawful scene
-    law = lawful t line sheet (ok .extents)
-
     pub call-left : left ≤ budget
     call-left = let (_, i, _) = run-done (tries scene pairs) budget 0 (l .done-with) in omega arith
 
@@ -191,7 +205,22 @@ module _ {t line sheet starts places store₀ rules : List ℕ} {count budget : 
     unfolding meaning
     trees-are = ap (λ (ms : List Match). map tree ms) (ap (λ log. gathered 0 (meanings log)) (l .made .grown) ∙ ap (gathered 0) (meanings-more [] (l .made .new)) ∙ l .made .found)
 
-    pub call-asked : length store ≡ 4096 → TellAsked t starts store (pool .used)
+    -- the same matches under the base
+    done-placed : run (tries placed-scene pairs) budget 0 ≡ done left (pool .used) (map (movedMatch base) (l .matches))
+    done-placed = run-based t line sheet base pairs budget 0 ∙ ap (mappedEnd (movedMatch base)) (l .done-with)
+
+    trees-placed : map (moved base) (treesIn store (pool .used)) ≡ map tree (map (movedMatch base) (l .matches))
+    trees-placed = ap (map (moved base)) trees-are ∙ sym (trees-moved base (l .matches))
+
+    fit : FitFrom base store (pool .used)
+    fit = record {
+      each = λ u m.
+          tree-fit placed-scene law-placed (small t line sheet budget base ok) pairs
+          (chosen-enough t line sheet (take count rules) base (asked .table) law-placed (asked .chosen)) budget done-placed (moved base u)
+          (subst (List·Memᴰ (moved base u)) trees-placed (Memᴰ·map (moved base) m));
+    }
+
+    pub call-asked : length store ≡ 4096 → TellAsked t starts store (pool .used) base
     call-asked sized = record {
       stored = record { sized = sized; room = l .room; earlier = l .made .earlier };
       begun = record { begins = asked .begins; fits = ok .table };
@@ -199,17 +228,19 @@ module _ {t line sheet starts places store₀ rules : List ℕ} {count budget : 
         counts = λ u m. omega (arith, few u (subst (List·Memᴰ u) trees-are m) .0, count-free t line sheet u);
         words = λ u m. few u (subst (List·Memᴰ u) trees-are m) .1;
       };
+      fit = fit;
       words = subst (λ (ts : List Tree). length (answerWords (sceneOf t [] []) ts) ≤ 12589058) (sym trees-are)
-          (subst (λ (ws : List ℕ). length ws ≤ 12589058) (words-free t line sheet (map tree (l .matches)))
-          (words-few scene law (small t line sheet budget ok) pairs enough budget (l .done-with)));
+          (subst (λ (ws : List ℕ). length ws ≤ 12589058) (words-alone (map tree (l .matches)))
+          (words-few scene law small-alone pairs enough budget (l .done-with)));
     }
       where
         few : (u : Tree) → List·Memᴰ u (map tree (l .matches)) → (exactCount scene u ≤ 120) × (length (treeWords u) ≤ 12288)
-        few u m = tree-few scene law (small t line sheet budget ok) pairs enough budget (l .done-with) u m
+        few u m = tree-few scene law small-alone pairs enough budget (l .done-with) u m
 
-    pub call-told : (v : ℕ) (b : List ℕ) (r : Told) → v ≡ budget - left → r ≡ matched (sceneOf t [] []) v (treesIn store (pool .used)) b
-        → r ≡ listedCall pairs t line sheet budget b
+    pub call-told : (v : ℕ) (b : List ℕ) (r : Told) → v ≡ budget - left → r ≡ matched (sceneOf t [] []) v (map (moved base) (treesIn store (pool .used))) b
+        → r ≡ listedCall pairs t line sheet budget base b
     call-told v b r n q =
-        q ∙ ap (λ (ts : List Tree). matched (sceneOf t [] []) v ts b) trees-are ∙ sym (matched-free t line sheet v (map tree (l .matches)) b)
-        ∙ ap (λ (k : ℕ). matched scene k (map tree (l .matches)) b) n
-        ∙ sym (Calls.walked-through (λ s. pairs) t line sheet budget b ok left (pool .used) (l .matches) (l .done-with))
+        q ∙ ap (λ (ts : List Tree). matched (sceneOf t [] []) v ts b) trees-placed
+        ∙ sym (matched-free t line sheet base v (map tree (map (movedMatch base) (l .matches))) b)
+        ∙ ap (λ (k : ℕ). matched placed-scene k (map tree (map (movedMatch base) (l .matches))) b) n
+        ∙ sym (Calls.walked-through (λ s. pairs) t line sheet budget base b ok left (pool .used) (map (movedMatch base) (l .matches)) done-placed)

@@ -9,7 +9,7 @@ use Rattle.plain.specs.Choice.{select}
 use Rattle.plain.specs.Told.{Told}
 use Rattle.plain.proofs.Answers.{one-answer}
 use Rattle.trials.specs.declared.Answer.{Answer}
-use Rattle.trials.specs.declared.Answer.the-variants.{Matched, NoMatch, BadTable, BadLine, BadSheet, BadBudget, Spent, TooDeep, PoolFull, TooLong}
+use Rattle.trials.specs.declared.Answer.the-variants.{Matched, NoMatch, BadTable, BadLine, BadSheet, BadBudget, BadBase, Spent, TooDeep, PoolFull, TooLong}
 use Rattle.trials.specs.Told.{says}
 use Rattle.trials.specs.declared.Checked.{Checked}
 use Rattle.trials.proofs.check.Reads as check
@@ -24,9 +24,10 @@ case-of r =
     (select (eqb (r .number) 3) (BadLine (r .place))
     (select (eqb (r .number) 4) BadSheet
     (select (eqb (r .number) 5) BadBudget
+    (select (eqb (r .number) 19) BadBase
     (select (eqb (r .number) 6) (Spent (r .visits))
     (select (eqb (r .number) 7) (TooDeep (r .visits))
-    (select (eqb (r .number) 8) (PoolFull (r .visits)) (TooLong (r .visits) (r .words))))))))))
+    (select (eqb (r .number) 8) (PoolFull (r .visits)) (TooLong (r .visits) (r .words)))))))))))
 
 case-of-says : (a : Answer) (b : List ℕ) → case-of (says a b) ≡ a
 unfolding case-of
@@ -36,6 +37,7 @@ case-of-says BadTable b = refl
 case-of-says (BadLine p) b = refl
 case-of-says BadSheet b = refl
 case-of-says BadBudget b = refl
+case-of-says BadBase b = refl
 case-of-says (Spent v) b = refl
 case-of-says (TooDeep v) b = refl
 case-of-says (PoolFull v) b = refl
@@ -48,6 +50,7 @@ buffer-of BadTable b = refl
 buffer-of (BadLine p) b = refl
 buffer-of BadSheet b = refl
 buffer-of BadBudget b = refl
+buffer-of BadBase b = refl
 buffer-of (Spent v) b = refl
 buffer-of (TooDeep v) b = refl
 buffer-of (PoolFull v) b = refl
@@ -61,5 +64,5 @@ same-answer a c b d e =
 pub check-tight : (κs a : _) (r s : Checked) (x y : _) → check.Post κs a r x → check.Post κs a s y → r ≡ s
 check-tight κs a r s x y = one-answer
 
-pub read-line-tight : (κs a : _) (r s : Answer) (x y : _) → read-line.Post κs a r x → read-line.Post κs a s y → (r ≡ s) × (now (x .1 .1 .1 .1 .1 .1 .1 .1 .1 .0) ≡ now (y .1 .1 .1 .1 .1 .1 .1 .1 .1 .0))
+pub read-line-tight : (κs a : _) (r s : Answer) (x y : _) → read-line.Post κs a r x → read-line.Post κs a s y → (r ≡ s) × (now (x .1 .1 .1 .1 .1 .1 .1 .1 .1 .1 .0) ≡ now (y .1 .1 .1 .1 .1 .1 .1 .1 .1 .1 .0))
 read-line-tight κs a r s x y p q = same-answer r s _ _ (one-answer p q)

@@ -17,15 +17,15 @@ use Rattle.readings.specs.Answer.{answerWords}
 use Rattle.readings.specs.Plan.{Outcome, done, stop, room}
 use Rattle.readings.specs.Walk.{Match}
 use Rattle.readings.specs.Records.{pairOf}
-use Rattle.readings.specs.Call.{Accepted, budgetFits, callWith}
+use Rattle.readings.specs.Call.{Accepted, budgetFits, baseFits, callWith}
 use Rattle.places.specs.Places.{Placed}
 use Rattle.pool.specs.declared.Pool.{Pool}
 use Rattle.pool.specs.Log.{logOf}
 use Rattle.pool.specs.Meaning.{Stored}
 use Rattle.trees.specs.Asked.{Begun}
-use Rattle.answer.specs.Measured.{treesIn, Bounded}
+use Rattle.answer.specs.Measured.{treesIn, Bounded, FitFrom}
 use Rattle.trials.specs.declared.Answer.{Answer}
-use Rattle.trials.specs.declared.Answer.the-variants.{Matched, NoMatch, BadTable, BadLine, BadSheet, BadBudget, Spent, TooDeep, PoolFull, TooLong}
+use Rattle.trials.specs.declared.Answer.the-variants.{Matched, NoMatch, BadTable, BadLine, BadSheet, BadBudget, BadBase, Spent, TooDeep, PoolFull, TooLong}
 use Rattle.trials.specs.declared.Checked.{Checked}
 use Rattle.trials.specs.declared.Checked.the-variants.{Good, Bad}
 use Rattle.walk.specs.declared.Refusal.{Refusal}
@@ -45,39 +45,43 @@ says BadTable b = told 2 0 0 0 b
 says (BadLine p) b = told 3 0 0 p b
 says BadSheet b = told 4 0 0 0 b
 says BadBudget b = told 5 0 0 0 b
+says BadBase b = told 19 0 0 0 b
 says (Spent v) b = told 6 v 0 0 b
 says (TooDeep v) b = told 7 v 0 0 b
 says (PoolFull v) b = told 8 v 0 0 b
 says (TooLong v w) b = told 9 v w 0 b
 
 -- the whole call that tries these rules, by ruleset and number
-abbrev pub listedCall : List (ℕ × ℕ) → List ℕ → List ℕ → List ℕ → ℕ → List ℕ → Told
+abbrev pub listedCall : List (ℕ × ℕ) → List ℕ → List ℕ → List ℕ → ℕ → ℕ → List ℕ → Told
 listedCall rules = callWith (λ s. rules)
 
--- what line, sheet and budget must have for none of 3, 4 and 5
-pub record LineAccepted (line sheet : List ℕ) (budget : ℕ) : Type 0 where
+-- what line, sheet, budget and base must have for none of 3, 4, 5 and 19
+pub record LineAccepted (line sheet : List ℕ) (budget base : ℕ) : Type 0 where
   pub bytes : faultAt line ≡ none
   pub extents : sheetFits sheet (length line) ≡ true
   pub visits : budgetFits budget ≡ true
+  pub starts : baseFits base ≡ true
 
 abbrev pub linedCheck : Option ℕ → Checked → Checked
 linedCheck none r = r
 linedCheck (some p) r = Bad (BadLine p)
 
--- the line's checks run 3, 4, 5
-unfoldable pub checkedOf : List ℕ → List ℕ → ℕ → Checked
-checkedOf line sheet budget =
+-- the line's checks run 3, 4, 5, 19
+unfoldable pub checkedOf : List ℕ → List ℕ → ℕ → ℕ → Checked
+checkedOf line sheet budget base =
     linedCheck (faultAt line)
-    (select (not (sheetFits sheet (length line))) (Bad BadSheet) (select (not (budgetFits budget)) (Bad BadBudget) Good))
+    (select (not (sheetFits sheet (length line))) (Bad BadSheet)
+    (select (not (budgetFits budget)) (Bad BadBudget) (select (not (baseFits base)) (Bad BadBase) Good)))
 
 -- the rules that a call tries, by their places in the table: the scan's, or those that the line's prefixes lead to
 pub data Chosen (t line rules : List ℕ) : Type 0 where
   all-tops : rules ≡ topRules t → Chosen t line rules
   by-prefix : rules ≡ foundRules t (linePrefix line) → Chosen t line rules
 
--- what trying rules asks: accepted input, an empty pool's store, rules of the table that were prepared
+-- what trying rules asks: accepted input, an empty pool's store, rules of the table that were prepared. The walk counts places
+-- from the line's start.
 pub record TryAsked (t line sheet starts places store rules : List ℕ) (count visits : ℕ) : Type 0 where
-  pub accepted : Accepted t line sheet visits
+  pub accepted : Accepted t line sheet visits 0
   pub begins : starts ≡ startsOf t
   pub placed : Placed t places rules count
   pub sized : length store ≡ room
@@ -100,17 +104,18 @@ stoppedBy Refusal.Spent v = Spent v
 stoppedBy Refusal.Deep v = TooDeep v
 stoppedBy Refusal.Full v = PoolFull v
 
--- what telling the matches asks: they are in the store, and their counts and words are few
-pub record TellAsked (t starts store : List ℕ) (used : ℕ) : Type 0 where
+-- what telling the matches asks: they are in the store, their counts and words are few, and under their base each word fits
+pub record TellAsked (t starts store : List ℕ) (used base : ℕ) : Type 0 where
   pub stored : Stored store used
   pub begun : Begun t starts
   pub bounded : Bounded t store used
+  pub fit : FitFrom base store used
   pub words : length (answerWords (sceneOf t [] []) (treesIn store used)) ≤ 12589058
 
 -- what reading a line asks: accepted input, and the rules of scan or lookup, prepared
-pub record ReadAsked (t line sheet starts places store rules : List ℕ) (count budget : ℕ) : Type 0 where
+pub record ReadAsked (t line sheet starts places store rules : List ℕ) (count budget base : ℕ) : Type 0 where
   pub table : tableFits t ≡ true
-  pub lined : LineAccepted line sheet budget
+  pub lined : LineAccepted line sheet budget base
   pub begins : starts ≡ startsOf t
   pub placed : Placed t places rules count
   pub chosen : Chosen t line (take count rules)

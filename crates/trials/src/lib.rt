@@ -1,7 +1,8 @@
 // A line on an accepted table whose rules are prepared: its checks, and the trial of the rules that scan or lookup chose.
-// From `src/asm/matcher/mod.rs`, `match_instr`. One call and a program of many lines share it. It refuses line, sheet and
-// budget (3, 4, 5); then the walk's budget, depth and pool (6, 7, 8); no match (1); an answer longer than the buffer (9).
-// A refusal leaves the buffer unchanged.
+// From `src/asm/matcher/mod.rs`, `match_instr`. One call and a program of many lines share it. It refuses line, sheet, budget
+// and base (3, 4, 5, 19); then the walk's budget, depth and pool (6, 7, 8); no match (1); an answer longer than the buffer
+// (9). A refusal leaves the buffer unchanged. The walk counts places from the line's start: the base comes in where the answer
+// is written.
 use line::LineCheck;
 use places;
 use pool::Pool;
@@ -10,8 +11,9 @@ use walk::Place;
 use walk::Refusal;
 use walk::Walked;
 ghost use mathlib.Core.Path.{_≡_};
-ghost use mathlib.Core.List.{[]};
+ghost use mathlib.Core.List.{[], map};
 ghost use Prim.Native.Nat.{_+_, _-_, _<_};
+ghost use Rattle.readings.specs.Tree.{moved};
 ghost use Rattle.readings.specs.Scene.{sceneOf};
 ghost use Rattle.readings.specs.Plan.{run};
 ghost use Rattle.readings.specs.Walk.{tries};
@@ -21,17 +23,21 @@ ghost use Rattle.trials.specs.Told.{says, checkedOf, TryAsked, Tried, Te
 
 const MOST_VISITS: u32 = 1_000_000;
 
+// With it the end of the longest line is the greatest number of 32 bits.
+const MOST_BASE: u32 = 4_294_967_175;
+
 // What a call returns. The buffer's start holds the answer if it matched, and is unchanged otherwise.
 pub enum Answer {
     // 0: the readings with the greatest exact count.
     Matched { visits: u32, words: u32 },
     // 1
     NoMatch { visits: u32 },
-    // 2 to 5
+    // 2 to 5, and 19
     BadTable,
     BadLine { place: u32 },
     BadSheet,
     BadBudget,
+    BadBase,
     // 6: the next visit would exceed the budget.
     Spent { visits: u32 },
     // 7: a nested step would enter depth 17.
@@ -54,9 +60,9 @@ pub enum Order {
     Lookup,
 }
 
-// The line's checks, in their order: 3, 4, 5.
-pub fn check(line: &[u8], sheet: &[u8], budget: u32) -> Checked
-    ensures answers { λ r. ⌜ r ≡ checkedOf (now (line .entry)) (now (sheet .entry)) budget ⌝ }
+// The line's checks, in their order: 3, 4, 5, 19.
+pub fn check(line: &[u8], sheet: &[u8], budget: u32, base: u32) -> Checked
+    ensures answers { λ r. ⌜ r ≡ checkedOf (now (line .entry)) (now (sheet .entry)) budget base ⌝ }
 {
     let found = line::check_line(line);
     match found {
@@ -75,6 +81,9 @@ pub fn check(line: &[u8], sheet: &[u8], budget: u32) -> Checked
     }
     if MOST_VISITS < budget {
         return Checked::Bad(Answer::BadBudget);
+    }
+    if MOST_BASE < base {
+        return Checked::Bad(Answer::BadBase);
     }
     Checked::Good
 }
@@ -133,17 +142,18 @@ fn try_rules(
     Walked::Done(left, has)
 }
 
-// The matches that the walk left, told: measured before anything is written.
+// The matches that the walk left, told by their base: measured before anything is written.
 fn tell(
     table: &[u16],
     starts: &[u16],
     store: &[usize],
     used: usize,
     visits: u32,
-    answer: &mut [u16],
+    base: usize,
+    answer: &mut [u32],
 ) -> Answer
-    requires { ⌜ TellAsked (now table) (now starts) (now store) used ⌝ }
-    ensures { λ r. ⌜ says r (now (answer .exit)) ≡ matched (sceneOf (now (table .entry)) [] []) visits (treesIn (now (store .entry)) used) (now (answer .entry)) ⌝ }
+    requires { ⌜ TellAsked (now table) (now starts) (now store) used base ⌝ }
+    ensures { λ r. ⌜ says r (now (answer .exit)) ≡ matched (sceneOf (now (table .entry)) [] []) visits (map (moved base) (treesIn (now (store .entry)) used)) (now (answer .entry)) ⌝ }
 {
     let measure = answer::measure_answer(table, starts, store, used);
     if measure.matches == 0 {
@@ -156,7 +166,7 @@ fn tell(
             words: words as u32,
         };
     }
-    answer::write_answer(table, starts, store, used, measure, answer);
+    answer::write_answer(table, starts, store, used, measure, base, answer);
     Answer::Matched {
         visits,
         words: words as u32,
@@ -180,15 +190,16 @@ pub fn read_line(
     line: &[u8],
     sheet: &[u8],
     budget: u32,
+    base: u32,
     starts: &[u16],
     places: &[u16],
     rules: &[u16],
     count: usize,
     store: &mut [usize],
-    answer: &mut [u16],
+    answer: &mut [u32],
 ) -> Answer
-    requires { ⌜ ReadAsked (now table) (now line) (now sheet) (now starts) (now places) (now store) (now rules) count budget ⌝ }
-    ensures answers { λ r. ⌜ says r (now (answer .exit)) ≡ listedCall (triedPairs (now (table .entry)) (now (rules .entry)) count) (now (table .entry)) (now (line .entry)) (now (sheet .entry)) budget (now (answer .entry)) ⌝ }
+    requires { ⌜ ReadAsked (now table) (now line) (now sheet) (now starts) (now places) (now store) (now rules) count budget base ⌝ }
+    ensures answers { λ r. ⌜ says r (now (answer .exit)) ≡ listedCall (triedPairs (now (table .entry)) (now (rules .entry)) count) (now (table .entry)) (now (line .entry)) (now (sheet .entry)) budget base (now (answer .entry)) ⌝ }
 {
     let visits = budget as usize;
     let walked = try_rules(
@@ -210,6 +221,7 @@ pub fn read_line(
             store,
             pool.used,
             (visits - left) as u32,
+            base as usize,
             answer,
         ),
     }

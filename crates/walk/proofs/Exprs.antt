@@ -13,6 +13,7 @@ use Rattle.defs.specs.Table.{partsBetween}
 use Rattle.readings.specs.Scene.{Scene, sceneOf}
 use Rattle.readings.specs.Plan.{Plan, done, stop, run, each}
 use Rattle.readings.specs.Walk.{Found, ends}
+use Rattle.readings.proofs.Leaves.{alone}
 use Rattle.readings.proofs.Packed.{lawful}
 use Rattle.lookahead.specs.declared.Ends.{Ends}
 use Rattle.lookahead.specs.Held.{heldEnds}
@@ -124,7 +125,8 @@ module _ {t line sheet starts store₀ : List ℕ} {place : Place} {w : Walker} 
       ≡ run (each (heldIn es) (exprFrom t line sheet place (w .limit) g)) visits (pool .used)
   unfolding exprPlan exprTurn rulePlan sceneOf
   plan-is =
-      ap (λ (h : ℕ). run (each xs (exprFrom t line sheet place (w .limit) h)) visits (pool .used)) (sym g-is)
+      ap (λ (at : ℕ → ℕ). run (each xs (λ e. turn [] (exprArg (at (min e (useful line (held line w)))) (at e)) (rulePlan t line sheet (place .depth) (place .at) (place .end) (w .limit) e))) visits (pool .used)) alone
+      ∙ ap (λ (h : ℕ). run (each xs (exprFrom t line sheet place (w .limit) h)) visits (pool .used)) (sym g-is)
       ∙ ap (λ (l : List ℕ). run (each l (exprFrom t line sheet place (w .limit) g)) visits (pool .used)) (sym places-are)
 
   pub expr-start : ExprDid t line sheet place (w .limit) g es visits (pool .used) store₀ 0 visits (pool .used) store₀

@@ -17,6 +17,7 @@ use Rattle.readings.specs.Tree.{Tree, nest}
 use Rattle.readings.specs.Scene.{sceneOf}
 use Rattle.readings.specs.Plan.{Plan, keep, Outcome, done, stop, run, _then_, each, mapped}
 use Rattle.readings.specs.Walk.{Found, Match, under, depths, limits, firsts, fresh, unless, anySame, sameMatch}
+use Rattle.readings.proofs.Leaves.{alone}
 use Rattle.readings.proofs.Packed.{lawful}
 use Rattle.readings.proofs.Plans.{each-source}
 use Rattle.readings.proofs.Runs.{run-done}
@@ -307,7 +308,9 @@ module _ {t line sheet starts store₀ : List ℕ} {place : Place} {w : Walker} 
 
     plan-is : planned ≡ run (passes then goes-on) visits (pool .used)
     unfolding nestedPlan nestTurn rulePlan sceneOf
-    plan-is = ap (λ (h : ℕ). run (passes then λ is. each (firsts sameMatch is) (nestFrom t line sheet place (w .limit) h)) visits (pool .used)) (sym g-is)
+    plan-is =
+        ap (λ (at : ℕ → ℕ). run (passes then λ is. each (firsts sameMatch is) (λ i. keep (mapped (λ x. (nest (at (min (i .1) (useful line (held line w)))) (at (i .1)) (i .0) (x .0), x .1)) (rulePlan t line sheet k (place .at) (place .end) (w .limit) (i .1))))) visits (pool .used)) alone
+        ∙ ap (λ (h : ℕ). run (passes then λ is. each (firsts sameMatch is) (nestFrom t line sheet place (w .limit) h)) visits (pool .used)) (sym g-is)
 
     -- a pass was refused
     pub nested-stop : (store : List ℕ) {why : Refusal} {l : ℕ} → run (each (limitsIn ls) (underLimit t line sheet k group (w .cursor))) visits (pool .used) ≡ stop (numberOf why) l

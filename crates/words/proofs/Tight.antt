@@ -13,5 +13,5 @@ tree-words-tight κs a r s x y = one-answer
 
 -- with the lent answer as it stands at exit
 pub write-tree-tight : (κs a : _) (r s : ℕ) (x y : _) → write-tree.Post κs a r x → write-tree.Post κs a s y
-    → _≡_ {A = List ℕ × ℕ} (now (x .1 .1 .1 .0), r) (now (y .1 .1 .1 .0), s)
+    → _≡_ {A = List ℕ × ℕ} (now (x .1 .1 .1 .1 .0), r) (now (y .1 .1 .1 .1 .0), s)
 write-tree-tight κs a r s x y = one-answer

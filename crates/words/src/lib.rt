@@ -1,5 +1,6 @@
-// A match as answer words, read from the pool's records: how many it has, and the words in the answer. In the Rust a match is
-// nested vectors (`InstructionMatch`, `InstructionArgument` of `src/asm/matcher/mod.rs`); the words are the port's. Recursion
+// A match as answer words, read from the pool's records: how many it has, and the words in the answer. A record has offsets in
+// the line; in the answer they stand as base plus offset, as the Rust's `span_offset` has them. In the Rust a match is nested
+// vectors (`InstructionMatch`, `InstructionArgument` of `src/asm/matcher/mod.rs`); the words are the port's. Recursion
 // over records, whose links are to earlier records, so the record number falls.
 use pool::Argument;
 use pool::ArgumentKind;
@@ -9,7 +10,9 @@ ghost use mathlib.Core.List.{[], _∷_};
 ghost use Prim.Native.Nat.{_+_, _≤_, _<_};
 ghost use lib.ListN.{length};
 ghost use Rattle.plain.specs.Buffers.{putAfter};
+ghost use Rattle.readings.specs.Tree.{moved, movedArgs};
 ghost use Rattle.readings.specs.Answer.{argCount, treeWords, argWords};
+ghost use Rattle.readings.specs.Measure.{Fit};
 ghost use Rattle.pool.specs.Meaning.{Stored, entries, treeAt};
 ghost use Rattle.trees.specs.Asked.{argsAt, treeLength, argsLength, TreeAsked, ArgsAsked};
 
@@ -73,52 +76,68 @@ fn count_arguments(store: &[usize], used: usize, a: usize) -> usize
 }
 
 // Three words in the answer from a place on, and the place after them.
-fn write_words(answer: &mut [u16], at: usize, x: usize, y: usize, z: usize) -> usize
+fn write_words(answer: &mut [u32], at: usize, x: usize, y: usize, z: usize) -> usize
     requires { ⌜ at + 3 ≤ length (now answer) ⌝ }
-    requires { ⌜ x < 65536 ⌝ }
-    requires { ⌜ y < 65536 ⌝ }
-    requires { ⌜ z < 65536 ⌝ }
+    requires { ⌜ x < 4294967296 ⌝ }
+    requires { ⌜ y < 4294967296 ⌝ }
+    requires { ⌜ z < 4294967296 ⌝ }
     ensures { λ r. ⌜ (now (answer .exit), r) ≡ putAfter at (x ∷ y ∷ z ∷ []) (now (answer .entry)) ⌝ }
 {
-    answer[at] = x as u16;
-    answer[at + 1] = y as u16;
-    answer[at + 2] = z as u16;
+    answer[at] = x as u32;
+    answer[at + 1] = y as u32;
+    answer[at + 2] = z as u32;
     at + WORDS
 }
 
 // A match's words in the answer from a place on, and the place after them.
-pub fn write_tree(store: &[usize], used: usize, m: usize, answer: &mut [u16], at: usize) -> usize
+pub fn write_tree(
+    store: &[usize],
+    used: usize,
+    m: usize,
+    base: usize,
+    answer: &mut [u32],
+    at: usize,
+) -> usize
     requires { ⌜ Stored (now store) used ⌝ }
     requires { ⌜ m < used ⌝ }
+    requires { ⌜ Fit (treeWords (moved base (treeAt (entries (now store) used) m))) ⌝ }
     requires { ⌜ at + length (treeWords (treeAt (entries (now store) used) m)) ≤ length (now answer) ⌝ }
-    ensures answers { λ r. ⌜ (now (answer .exit), r) ≡ putAfter at (treeWords (treeAt (entries (now (store .entry)) used) m)) (now (answer .entry)) ⌝ }
+    ensures answers { λ r. ⌜ (now (answer .exit), r) ≡ putAfter at (treeWords (moved base (treeAt (entries (now (store .entry)) used) m))) (now (answer .entry)) ⌝ }
 {
     let head = pool::match_at(store, used, m);
     let count = count_arguments(store, used, head.args);
     let next = write_words(answer, at, head.set, head.rule, count);
-    write_arguments(store, used, head.args, answer, next)
+    write_arguments(store, used, head.args, base, answer, next)
 }
 
 // The words of arguments up to a last one: those of the ones before it, its own, and its match's if it is nested.
-fn write_arguments(store: &[usize], used: usize, a: usize, answer: &mut [u16], at: usize) -> usize
+fn write_arguments(
+    store: &[usize],
+    used: usize,
+    a: usize,
+    base: usize,
+    answer: &mut [u32],
+    at: usize,
+) -> usize
     requires { ⌜ Stored (now store) used ⌝ }
     requires { ⌜ a ≤ used ⌝ }
+    requires { ⌜ Fit (argWords (movedArgs base (argsAt (entries (now store) used) a))) ⌝ }
     requires { ⌜ at + length (argWords (argsAt (entries (now store) used) a)) ≤ length (now answer) ⌝ }
-    ensures { λ r. ⌜ (now (answer .exit), r) ≡ putAfter at (argWords (argsAt (entries (now (store .entry)) used) a)) (now (answer .entry)) ⌝ }
+    ensures { λ r. ⌜ (now (answer .exit), r) ≡ putAfter at (argWords (movedArgs base (argsAt (entries (now (store .entry)) used) a))) (now (answer .entry)) ⌝ }
 {
     let last = pool::last_argument(store, used, a);
     match last {
         Last::First => at,
         Last::After(argument, prev) => {
-            let next = write_arguments(store, used, prev, answer, at);
+            let next = write_arguments(store, used, prev, base, answer, at);
+            let start = base + argument.start;
+            let end = base + argument.end;
             let kind = argument.kind;
             match kind {
-                ArgumentKind::Expr => {
-                    write_words(answer, next, EXPRESSION, argument.start, argument.end)
-                }
+                ArgumentKind::Expr => write_words(answer, next, EXPRESSION, start, end),
                 ArgumentKind::Nested(m) => {
-                    let inner = write_words(answer, next, NESTED, argument.start, argument.end);
-                    write_tree(store, used, m, answer, inner)
+                    let inner = write_words(answer, next, NESTED, start, end);
+                    write_tree(store, used, m, base, answer, inner)
                 }
             }
         }

@@ -14,7 +14,7 @@ check-table-requires : tie.Need-check-table-requires
 check-table-requires c κs = search needs
 
 returns : tie.Need-returns
-returns c = table-refused (c .before .before .before .before .before .before .args .order) _ _ _ _ _ (refused (c .before .check-table .ensures) (c .if1 .taken))
+returns c = table-refused (c .before .before .before .before .before .before .args .order) _ _ _ _ _ _ (refused (c .before .check-table .ensures) (c .if1 .taken))
 
 check-requires : tie.Need-check-requires
 check-requires c κs = search needs
@@ -23,7 +23,7 @@ enum-known-checked : tie.Need-enum-known-checked
 enum-known-checked c = search needs
 
 returns-2 : tie.Need-returns-2
-returns-2 c = line-refused (c .before .before .before .before .before .before .before .before .before .before .args .order) _ _ _ _ _ (passed (c .before .before .before .before .before .check-table .ensures) (c .before .before .before .before .if1 .left)) (c .before .before .before .check .ensures) (c .before .checked .given .1)
+returns-2 c = line-refused (c .before .before .before .before .before .before .before .before .before .before .args .order) _ _ _ _ _ _ (passed (c .before .before .before .before .before .check-table .ensures) (c .before .before .before .before .if1 .left)) (c .before .before .before .check .ensures) (c .before .checked .given .1)
 
 enum-told : tie.Need-enum-told
 enum-told c = search needs
@@ -49,7 +49,7 @@ slice-aggregate-place-rules-3 c = search needs
 place-rules-requires : tie.Need-place-rules-requires
 place-rules-requires c κs =
     chosen-places _ _ (passed (c .before .before .before .before .before .before .before .before .before .before .before .check-table .ensures) (c .before .before .before .before .before .before .before .before .before .before .if1 .left)) _ _ _ _ (c .before .before .before .before .before .before .ruleset-starts .ensures)
-    (chosen-by (c .before .before .before .before .before .before .before .before .before .before .before .before .before .before .before .before .args .order) _ (c .before .before .before .before .before .before .before .before .before .before .before .before .before .before .before .before .args .line .now) (c .before .before .before .before .before .before .before .before .before .before .before .before .before .before .before .before .args .sheet .now) 0 [] (passed (c .before .before .before .before .before .before .before .before .before .before .before .check-table .ensures) (c .before .before .before .before .before .before .before .before .before .before .if1 .left)) _ (c .before .before .before .before .rules-to-try .ensures .0))
+    (chosen-by (c .before .before .before .before .before .before .before .before .before .before .before .before .before .before .before .before .args .order) _ (c .before .before .before .before .before .before .before .before .before .before .before .before .before .before .before .before .args .line .now) (c .before .before .before .before .before .before .before .before .before .before .before .before .before .before .before .before .args .sheet .now) 0 0 [] (passed (c .before .before .before .before .before .before .before .before .before .before .before .check-table .ensures) (c .before .before .before .before .before .before .before .before .before .before .if1 .left)) _ (c .before .before .before .before .rules-to-try .ensures .0))
     (omega (arith, c .before .before .before .before .rules-to-try .ensures .1, c .before .before .before .before .rules-to-try .kept)) refl
 
 slice-aggregate-read-line : tie.Need-slice-aggregate-read-line
@@ -68,10 +68,10 @@ read-line-requires : tie.Need-read-line-requires
 read-line-requires c κs =
     record {
       table = passed (c .before .before .before .before .before .before .before .before .before .before .before .before .before .before .before .before .before .before .check-table .ensures) (c .before .before .before .before .before .before .before .before .before .before .before .before .before .before .before .before .before .if1 .left);
-      lined = accepted-by _ _ _ (c .before .before .before .before .before .before .before .before .before .before .before .before .before .before .before .before .check .ensures) (c .before .before .before .before .before .before .before .before .before .before .before .before .before .before .enum-told .given .1);
+      lined = accepted-by _ _ _ _ (c .before .before .before .before .before .before .before .before .before .before .before .before .before .before .before .before .check .ensures) (c .before .before .before .before .before .before .before .before .before .before .before .before .before .before .enum-told .given .1);
       begins = c .before .before .before .before .before .before .before .before .before .before .before .before .before .ruleset-starts .ensures;
       placed = c .before .before .before .before .before .before .place-rules .ensures;
-      chosen = chosen-by (c .before .before .before .before .before .before .before .before .before .before .before .before .before .before .before .before .before .before .before .before .before .before .before .args .order) _ (c .before .before .before .before .before .before .before .before .before .before .before .before .before .before .before .before .before .before .before .before .before .before .before .args .line .now) (c .before .before .before .before .before .before .before .before .before .before .before .before .before .before .before .before .before .before .before .before .before .before .before .args .sheet .now) 0 [] (passed (c .before .before .before .before .before .before .before .before .before .before .before .before .before .before .before .before .before .before .check-table .ensures) (c .before .before .before .before .before .before .before .before .before .before .before .before .before .before .before .before .before .if1 .left)) _ (c .before .before .before .before .before .before .before .before .before .before .before .rules-to-try .ensures .0);
+      chosen = chosen-by (c .before .before .before .before .before .before .before .before .before .before .before .before .before .before .before .before .before .before .before .before .before .before .before .args .order) _ (c .before .before .before .before .before .before .before .before .before .before .before .before .before .before .before .before .before .before .before .before .before .before .before .args .line .now) (c .before .before .before .before .before .before .before .before .before .before .before .before .before .before .before .before .before .before .before .before .before .before .before .args .sheet .now) 0 0 [] (passed (c .before .before .before .before .before .before .before .before .before .before .before .before .before .before .before .before .before .before .check-table .ensures) (c .before .before .before .before .before .before .before .before .before .before .before .before .before .before .before .before .before .if1 .left)) _ (c .before .before .before .before .before .before .before .before .before .before .before .rules-to-try .ensures .0);
       sized = refl;
       fits = omega (arith, c .before .before .before .before .before .before .before .before .before .before .before .rules-to-try .ensures .1, c .before .before .before .before .before .before .before .before .before .before .before .rules-to-try .kept);
     }
@@ -80,7 +80,7 @@ same-length : tie.Need-same-length
 same-length c = search needs
 
 returns-3 : tie.Need-returns-3
-returns-3 c = line-told (c .before .before .before .before .before .before .before .before .before .before .before .before .before .before .before .before .before .before .before .before .before .before .before .before .before .before .before .args .order) _ _ _ _ _ (passed (c .before .before .before .before .before .before .before .before .before .before .before .before .before .before .before .before .before .before .before .before .before .before .check-table .ensures) (c .before .before .before .before .before .before .before .before .before .before .before .before .before .before .before .before .before .before .before .before .before .if1 .left)) _ _ (c .before .before .before .before .before .before .before .before .before .before .before .before .before .before .before .rules-to-try .ensures .0) (c .before .before .before .read-line .ensures)
+returns-3 c = line-told (c .before .before .before .before .before .before .before .before .before .before .before .before .before .before .before .before .before .before .before .before .before .before .before .before .before .before .before .args .order) _ _ _ _ _ _ (passed (c .before .before .before .before .before .before .before .before .before .before .before .before .before .before .before .before .before .before .before .before .before .before .check-table .ensures) (c .before .before .before .before .before .before .before .before .before .before .before .before .before .before .before .before .before .before .before .before .before .if1 .left)) _ _ (c .before .before .before .before .before .before .before .before .before .before .before .before .before .before .before .rules-to-try .ensures .0) (c .before .before .before .read-line .ensures)
 
 pub call-spec : {M : Type 1} → statement M
 call-spec =

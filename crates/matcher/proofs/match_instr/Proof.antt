@@ -10,7 +10,7 @@ same-length : tie.Need-same-length
 same-length c = search needs
 
 returns : tie.Need-returns
-returns c = (search needs, scan-reads _ _ _ _ _ _ (c .before .before .call .ensures))
+returns c = (search needs, scan-reads _ _ _ _ _ _ _ (c .before .before .call .ensures))
 
 pub match-instr-spec : {M : Type 1} → statement M
 match-instr-spec = tie.close (tie.spec call-requires same-length returns)

@@ -13,8 +13,8 @@ returns : tie.Need-returns
 returns c = (
   search needs,
   (
-    lookup-reads _ _ _ _ _ _ (c .before .before .call .ensures),
-    (lookup-visits _ _ _ _ _ _ (c .before .before .call .ensures), lookup-tells _ _ _ _ _ _ (c .before .before .call .ensures)),
+    lookup-reads _ _ _ _ _ _ _ (c .before .before .call .ensures),
+    (lookup-visits _ _ _ _ _ _ _ (c .before .before .call .ensures), lookup-tells _ _ _ _ _ _ _ (c .before .before .call .ensures)),
   ),
 )
 

@@ -14,7 +14,7 @@ same-length-2 : tie.Need-same-length-2
 same-length-2 c = search needs
 
 returns : tie.Need-returns
-returns c = (c .before .before .before .before .run-program .ensures, scan-reads _ _ _ _ _ _ _ _ (c .before .before .before .before .run-program .ensures))
+returns c = (c .before .before .before .before .run-program .ensures, scan-reads _ _ _ _ _ _ _ _ _ (c .before .before .before .before .run-program .ensures))
 
 pub match-program-spec : {M : Type 1} → statement M
 match-program-spec = tie.close (tie.spec run-program-requires same-length same-length-2 returns)

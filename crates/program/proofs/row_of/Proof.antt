@@ -66,6 +66,12 @@ enum-told-9 c = search needs
 refused-requires-9 : tie.Need-refused-requires-9
 refused-requires-9 c κs = search needs
 
+enum-told-10 : tie.Need-enum-told-10
+enum-told-10 c = search needs
+
+refused-requires-10 : tie.Need-refused-requires-10
+refused-requires-10 c κs = search needs
+
 returns : tie.Need-returns
 unfolding taken
 returns c = row-case (c .before .answer .given .1) refl (λ b. refl) (λ b. refl)
@@ -106,6 +112,10 @@ returns-10 : tie.Need-returns-10
 unfolding taken
 returns-10 c = row-case (c .before .enum-told9 .given .1) (c .refused9 .ensures) (λ b. refl) (λ b. refl)
 
+returns-11 : tie.Need-returns-11
+unfolding taken
+returns-11 c = row-case (c .before .enum-told10 .given .1) (c .refused10 .ensures) (λ b. refl) (λ b. refl)
+
 pub row-of-spec : {M : Type 1} → statement M
 row-of-spec =
     tie.close
@@ -130,6 +140,8 @@ row-of-spec =
     refused-requires-8
     enum-told-9
     refused-requires-9
+    enum-told-10
+    refused-requires-10
     returns
     returns-2
     returns-3
@@ -139,4 +151,5 @@ row-of-spec =
     returns-7
     returns-8
     returns-9
-    returns-10)
+    returns-10
+    returns-11)

@@ -12,13 +12,13 @@ check-table-requires : tie.Need-check-table-requires
 check-table-requires c κs = search needs
 
 returns : tie.Need-returns
-returns c = bad-table (orderOf (c .before .before .before .before .before .before .before .before .before .args .how)) _ _ _ _ _ _ _ (refused (c .before .check-table .ensures) (c .if1 .taken))
+returns c = bad-table (orderOf (c .before .before .before .before .before .before .before .before .before .before .args .how)) _ _ _ _ _ _ _ _ (refused (c .before .check-table .ensures) (c .if1 .taken))
 
 check-program-requires : tie.Need-check-program-requires
 check-program-requires c κs = search needs
 
 returns-2 : tie.Need-returns-2
-returns-2 c = bad-program (orderOf (c .before .before .before .before .before .before .before .before .before .before .before .args .how)) _ _ _ _ _ _ _ (passed (c .before .before .before .check-table .ensures) (c .before .before .if1 .left)) (refused (c .before .check-program .ensures) (c .if2 .taken))
+returns-2 c = bad-program (orderOf (c .before .before .before .before .before .before .before .before .before .before .before .before .args .how)) _ _ _ _ _ _ _ _ (passed (c .before .before .before .check-table .ensures) (c .before .before .if1 .left)) (refused (c .before .check-program .ensures) (c .if2 .taken))
 
 ruleset-starts-requires : tie.Need-ruleset-starts-requires
 ruleset-starts-requires c κs = search needs
@@ -56,8 +56,8 @@ slice-aggregate-run-lines-5 c = search needs
 run-lines-requires : tie.Need-run-lines-requires
 run-lines-requires c κs = (c .before .before .before .before .before .before .before .before .before .before .prepare .ensures, (refl, passed (c .before .before .before .before .before .before .before .before .before .before .before .before .before .before .before .before .before .check-program .ensures) (c .before .before .before .before .before .before .before .before .before .before .before .before .before .before .before .before .if2 .left)))
 
-cast-t45 : tie.Need-cast-t45
-cast-t45 c = omega (arith, c .before .before .before .before .before .before .run-lines .ensures .1)
+cast-t47 : tie.Need-cast-t47
+cast-t47 c = omega (arith, c .before .before .before .before .before .before .run-lines .ensures .1)
 
 same-length : tie.Need-same-length
 same-length c = search needs
@@ -66,7 +66,7 @@ same-length-2 : tie.Need-same-length-2
 same-length-2 c = search needs
 
 returns-3 : tie.Need-returns-3
-returns-3 c = program-told (orderOf (c .before .before .before .before .before .before .before .before .before .before .before .before .before .before .before .before .before .before .before .before .before .before .before .before .before .before .before .before .before .before .before .before .before .before .args .how)) _ _ _ _ _ _ _ (passed (c .before .before .before .before .before .before .before .before .before .before .before .before .before .before .before .before .before .before .before .before .before .before .before .before .before .before .check-table .ensures) (c .before .before .before .before .before .before .before .before .before .before .before .before .before .before .before .before .before .before .before .before .before .before .before .before .before .if1 .left)) (passed (c .before .before .before .before .before .before .before .before .before .before .before .before .before .before .before .before .before .before .before .before .before .before .before .before .check-program .ensures) (c .before .before .before .before .before .before .before .before .before .before .before .before .before .before .before .before .before .before .before .before .before .before .before .if2 .left)) (c .before .before .before .before .before .before .run-lines .ensures .0)
+returns-3 c = program-told (orderOf (c .before .before .before .before .before .before .before .before .before .before .before .before .before .before .before .before .before .before .before .before .before .before .before .before .before .before .before .before .before .before .before .before .before .before .before .args .how)) _ _ _ _ _ _ _ _ (passed (c .before .before .before .before .before .before .before .before .before .before .before .before .before .before .before .before .before .before .before .before .before .before .before .before .before .before .check-table .ensures) (c .before .before .before .before .before .before .before .before .before .before .before .before .before .before .before .before .before .before .before .before .before .before .before .before .before .if1 .left)) (passed (c .before .before .before .before .before .before .before .before .before .before .before .before .before .before .before .before .before .before .before .before .before .before .before .before .check-program .ensures) (c .before .before .before .before .before .before .before .before .before .before .before .before .before .before .before .before .before .before .before .before .before .before .before .if2 .left)) (c .before .before .before .before .before .before .run-lines .ensures .0)
 
 pub run-program-spec : {M : Type 1} → statement M
 run-program-spec =
@@ -88,7 +88,7 @@ run-program-spec =
     slice-aggregate-run-lines-4
     slice-aggregate-run-lines-5
     run-lines-requires
-    cast-t45
+    cast-t47
     same-length
     same-length-2
     returns-3)
