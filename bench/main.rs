@@ -27,6 +27,9 @@ use std::time::{Duration, Instant};
 const BUDGET: u32 = 1_000_000;
 const ROOM: usize = 4096;
 
+/// Where every line begins in its file, on both sides.
+const BASE: u32 = 1000;
+
 /// Rounds over all cases, and samples of each side in a round, taken in turn; the least of all counts.
 const ROUNDS: usize = 5;
 const SAMPLES: usize = 8;
@@ -34,29 +37,42 @@ const SAMPLES: usize = 8;
 const SAMPLE: Duration = Duration::from_millis(4);
 
 /// A call of the proved library. With budget 0 it ends after its checks, in number 5.
-fn proved(case: &Case, lookup: bool, budget: u32, room: &mut [u16]) -> raw::Answer {
+fn proved(case: &Case, lookup: bool, budget: u32, room: &mut [u32]) -> raw::Answer {
     let order = if lookup { Order::Lookup } else { Order::Scan };
-    raw::call(order, &case.table, &case.line, &case.sheet, budget, room)
+    raw::call(order, &case.table, &case.line, &case.sheet, budget, BASE, room)
+}
+
+/// The matches that the Rust finds.
+fn rust(defs: &oracle::asm::ItemDefs, case: &Case, lookup: bool) -> oracle::asm::InstructionMatches {
+    oracle::run_match(defs, &case.line, &case.sheet, BASE as usize, lookup)
+}
+
+/// The answer words of the Rust's matches: no place of these is past 32 bits.
+fn words(matches: &oracle::asm::InstructionMatches) -> Vec<u32> {
+    oracle::pack_answer(matches)
+        .into_iter()
+        .map(|word| word as u32)
+        .collect()
 }
 
 // What callgrind counts: these three and what they call.
 
 #[no_mangle]
 #[inline(never)]
-fn counted_proved(case: &Case, lookup: bool, room: &mut [u16]) -> u32 {
+fn counted_proved(case: &Case, lookup: bool, room: &mut [u32]) -> u32 {
     proved(case, lookup, BUDGET, room).visits
 }
 
 #[no_mangle]
 #[inline(never)]
-fn counted_checks(case: &Case, lookup: bool, room: &mut [u16]) -> u32 {
+fn counted_checks(case: &Case, lookup: bool, room: &mut [u32]) -> u32 {
     proved(case, lookup, 0, room).number
 }
 
 #[no_mangle]
 #[inline(never)]
 fn counted_rust(defs: &oracle::asm::ItemDefs, case: &Case, lookup: bool) -> usize {
-    oracle::run_match(defs, &case.line, &case.sheet, lookup).len()
+    rust(defs, case, lookup).len()
 }
 
 /// How long `f` takes, in nanoseconds: calls enough for a sample, once.
@@ -97,7 +113,7 @@ pub fn lower<const N: usize>(least: &mut [f64; N], mut sides: [&mut dyn FnMut();
 fn agree(case: &Case, lookup: bool, defs: &oracle::asm::ItemDefs) -> u32 {
     let mut room = vec![0; ROOM];
     let told = proved(case, lookup, BUDGET, &mut room);
-    let words = oracle::pack_answer(&oracle::run_match(defs, &case.line, &case.sheet, lookup));
+    let words = words(&rust(defs, case, lookup));
     assert!(
         told.number <= 1 && words == room[..told.words as usize],
         "{}",
@@ -121,11 +137,11 @@ fn time_case(case: &Case, lookup: bool, least: &mut [f64; 4]) {
                 black_box(proved(black_box(case), lookup, 0, &mut other).number);
             },
             &mut || {
-                black_box(oracle::run_match(black_box(&defs), &case.line, &case.sheet, lookup));
+                black_box(rust(black_box(&defs), case, lookup));
             },
             &mut || {
                 let defs = oracle::unpack_table(black_box(&case.table));
-                black_box(oracle::run_match(&defs, &case.line, &case.sheet, lookup));
+                black_box(rust(&defs, case, lookup));
             },
         ],
     );
@@ -227,7 +243,7 @@ fn once(name: &str, side: &str) {
             black_box(counted_checks(&case, lookup, &mut room));
         }
         _ => {
-            black_box(oracle::run_match(&defs, &case.line, &case.sheet, lookup));
+            black_box(rust(&defs, &case, lookup));
             black_box(counted_rust(&defs, &case, lookup));
         }
     }

@@ -2,12 +2,15 @@
 
 use crate::cases::{self, Case, Program};
 use crate::raw::{self, Order};
-use crate::{lower, proved, BUDGET};
+use crate::{lower, proved, BASE, BUDGET};
 use oracle::asm::ItemDefs;
 use std::hint::black_box;
 
 /// Room for the answers of all lines.
 const ROOM: usize = 1 << 16;
+
+/// The base of each line of the longest program.
+const BASES: [u32; 256] = [BASE; 256];
 
 /// What is run on a program: all of its lines each time.
 #[derive(Clone, Copy, PartialEq)]
@@ -35,19 +38,20 @@ const SIDES: [(&str, Side); 6] = [
     ("from_table", Side::FromTable),
 ];
 
-fn call(program: &Program, lookup: bool, budgets: &[u32], rows: &mut [u32], answers: &mut [u16]) -> raw::Answer {
+fn call(program: &Program, lookup: bool, budgets: &[u32], rows: &mut [u32], answers: &mut [u32]) -> raw::Answer {
     let order = if lookup { Order::Lookup } else { Order::Scan };
     let lines = raw::Program {
         text: &program.text,
         ends: &program.ends,
         sheets: &program.sheets,
         budgets,
+        bases: &BASES[..program.lines.len()],
     };
     raw::program(order, &program.table, lines, rows, answers)
 }
 
 /// Its lines one by one, each into the room that is left.
-fn singles(program: &Program, lookup: bool, answers: &mut [u16]) -> usize {
+fn singles(program: &Program, lookup: bool, answers: &mut [u32]) -> usize {
     let mut used = 0;
     for case in &program.lines {
         used += proved(case, lookup, BUDGET, &mut answers[used..]).words as usize;
@@ -56,7 +60,7 @@ fn singles(program: &Program, lookup: bool, answers: &mut [u16]) -> usize {
 }
 
 fn rust(program: &Program, lookup: bool, defs: &ItemDefs) -> usize {
-    let run = |case: &Case| oracle::run_match(defs, &case.line, &case.sheet, lookup).len();
+    let run = |case: &Case| crate::rust(defs, case, lookup).len();
     program.lines.iter().map(run).sum()
 }
 
@@ -92,7 +96,7 @@ fn agree(program: &Program, lookup: bool) -> u32 {
     assert!(told.number == 0, "{}", program.name);
     let (mut visits, mut expected) = (0, Vec::new());
     for (case, row) in program.lines.iter().zip(rows.chunks(2)) {
-        let words = oracle::pack_answer(&oracle::run_match(&defs, &case.line, &case.sheet, lookup));
+        let words = crate::words(&crate::rust(&defs, case, lookup));
         assert!(
             *row == [words.is_empty() as u32, expected.len() as u32],
             "{}",

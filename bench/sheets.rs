@@ -1,7 +1,7 @@
 //! Sheets: what filling one from its line takes, against what the check of the same sheet takes in a match call.
 
 use crate::raw::{self, Order};
-use crate::{cases, lower};
+use crate::{cases, lower, BASE};
 use std::hint::black_box;
 
 /// A line, and the sheet that filling gives it.
@@ -47,7 +47,7 @@ pub fn all() -> Vec<Filled> {
 fn runner(filled: &Filled, side: Side) -> Box<dyn FnMut() + '_> {
     let mut sheet = filled.sheet.clone();
     let checks = |filled: &Filled, sheet: &[u8]| {
-        let told = raw::call(Order::Scan, &NO_RULES, &filled.line, sheet, 0, &mut []);
+        let told = raw::call(Order::Scan, &NO_RULES, &filled.line, sheet, 0, BASE, &mut []);
         black_box(told.number)
     };
     match side {

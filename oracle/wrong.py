@@ -1,13 +1,13 @@
 #!/usr/bin/env python3
-"""Does the comparison see an error? Builds wrong copies of the Rust, and of the grammar that filled sheets are held to, one
-error each, and compares the proved code with each.
+"""Does the comparison see an error? Builds wrong copies of the Rust, of the grammar that filled sheets are held to, and of the
+model's bases, which the Rust does not refuse, one error each, and compares the proved code with each.
 
     wrong.py [--text RUST_TEXT] [--cases N] [--seed S] [--only WORDS]
 
 Run it after `run`, which builds the program that it uses. The random cases alone are run, not the exhaustive short ones.
 An edit that no longer fits the text, or a copy that doesn't build, is an error, as is a copy that the comparison can't tell
-from the Rust, or from the grammar; so is a difference from these themselves, which comes first. Two copies are there because
-they change nothing: they must not be told apart. Copies are made in a temporary folder and removed.
+from what it is a copy of; so is a difference from these themselves, which comes first. Three copies are there because they
+change nothing: they must not be told apart. Copies are made in a temporary folder and removed.
 """
 import argparse
 import pathlib
@@ -41,6 +41,45 @@ WHITE_PART = """walker.next_token().kind != syntax::TokenKind::Whitespace
                 }"""
 USEFUL = "if !token.kind.is_ignorable()\n            {\n                if nth == 0"
 CLOSER = "if paren_nesting == 0\n                    { break; }\n                \n                paren_nesting -= 1;"
+SPANS_DIFFER = "if self.span != other.span"
+SPAN = "let span = {}.get_span(\n            walker_start,\n            walker_end);"
+EXPRESSION_SPAN = SPAN.format("inner_walker")
+NESTED_SPAN = SPAN.format("walker")
+BOTH_SPANS = [EXPRESSION_SPAN, NESTED_SPAN]
+NESTED_MATCHES = """|walker| match_with_ruledef(
+                    defs,
+                    nested_ruledef_ref,
+                    walker.clone(),
+                    false)),"""
+
+
+def span_of(span, start, end):
+    """The span, and then another in its place, from what its own start and end are."""
+    places = "let (start, end) = span.location().unwrap();\nlet _ = (start, end);\n"
+    return f"{span}\n{places}let span = diagn::Span::new(span.file_handle, {start}, {end});\n"
+
+
+def compared(place):
+    """The test of two spans by something of their places alone."""
+    return f"""let places = |span: diagn::Span| {{
+            let (start, end) = span.location().unwrap();
+            ({place.format("start")}, {place.format("end")})
+        }};
+        if places(self.span) != places(other.span)"""
+
+
+# The arguments of every match that a nested step has found lose the base.
+NESTED_AT_0 = """|walker| {
+                    let mut found = match_with_ruledef(defs, nested_ruledef_ref, walker.clone(), false);
+                    for (mtch, walker) in &mut found {
+                        for arg in &mut mtch.args {
+                            let start = walker.get_index_at_span_start(arg.span);
+                            let end = walker.get_index_at_span_end(arg.span);
+                            arg.span = diagn::Span::new(arg.span.file_handle, start, end);
+                        }
+                    }
+                    found
+                }),"""
 
 # What is wrong, in which file, the text there and what stands for it: one text or several.
 WRONG = [
@@ -101,10 +140,33 @@ WRONG = [
     ("scan tries nested-only rulesets", MATCHER, TOP_ONLY, ""),
     # equal matches and counts
     ("equal inner matches kept", MATCHER, "|a, b| a.0.is_same(&b.0)", "|_, _| false"),
-    ("equal whatever the spans", MATCHER, "if self.span != other.span", "if false"),
+    ("equal whatever the spans", MATCHER, SPANS_DIFFER, "if false"),
     ("equal whatever is nested", MATCHER, "a.is_same(b),", "true,"),
     ("the least count kept", MATCHER, ".max_by_key(|m| m.exact_part_count)", ".min_by_key(|m| m.exact_part_count)"),
     ("nested exact parts not counted", MATCHER, "count + rule.exact_part_count", "rule.exact_part_count + 0 * count"),
+    # the base
+    ("no base", MATCHER, "span.location().unwrap().0);", "0);"),
+    ("the line's end as its base", MATCHER, "span.location().unwrap().0);", "span.location().unwrap().1);"),
+    ("no base in lookup", MATCHER, "match_with_ruledef_map(\n            defs,\n            walker);",
+     "match_with_ruledef_map(\n            defs,\n            syntax::Walker::new(src, span.file_handle, 0));"),
+    ("no base in an expression's start", MATCHER, EXPRESSION_SPAN, span_of(EXPRESSION_SPAN, "walker_start", "end")),
+    ("no base in an expression's end", MATCHER, EXPRESSION_SPAN, span_of(EXPRESSION_SPAN, "start", "walker_end")),
+    ("no base in a nested argument's start", MATCHER, NESTED_SPAN, span_of(NESTED_SPAN, "walker_start", "end")),
+    ("no base in a nested argument's end", MATCHER, NESTED_SPAN, span_of(NESTED_SPAN, "start", "walker_end")),
+    ("the base twice in a nested argument", MATCHER, NESTED_SPAN,
+     span_of(NESTED_SPAN, "start + start - walker_start", "end + end - walker_end")),
+    ("no base in the arguments of nested matches", MATCHER, NESTED_MATCHES, NESTED_AT_0),
+    ("places of 16 bits", MATCHER, BOTH_SPANS, [span_of(s, "start % (1 << 16)", "end % (1 << 16)") for s in BOTH_SPANS]),
+    ("places of 31 bits", MATCHER, BOTH_SPANS, [span_of(s, "start % (1 << 31)", "end % (1 << 31)") for s in BOTH_SPANS]),
+    ("0 for the place 2^32 - 1", MATCHER, BOTH_SPANS,
+     [span_of(s, "start % ((1 << 32) - 1)", "end % ((1 << 32) - 1)") for s in BOTH_SPANS]),
+    ("2^32 - 1 for places past it", MATCHER, BOTH_SPANS,
+     [span_of(s, "start.min((1 << 32) - 1)", "end.min((1 << 32) - 1)") for s in BOTH_SPANS]),
+    ("spans compared up to 2^16 alone", MATCHER, SPANS_DIFFER, compared("{}.min(1 << 16)")),
+    ("spans compared in floating point of 32 bits", MATCHER, SPANS_DIFFER, compared("{} as f32")),
+    ("spans compared up to 2^31 alone", MATCHER, SPANS_DIFFER, compared("{}.min(1 << 31)")),
+    ("no base where a token ends", WALKER, "span.location().unwrap().1 - self.span_offset", "span.location().unwrap().1"),
+    ("no base at the limit", WALKER, "self.span_offset + self.cursor_limit;", "self.cursor_limit;"),
     # selection
     ("the largest chosen", RESOLVER, ".min()\n        .unwrap();", ".max()\n        .unwrap();"),
     ("a tie of two let through", RESOLVER, "smallest_encodings.len() > 1", "smallest_encodings.len() > 2"),
@@ -119,7 +181,41 @@ WRONG = [
 # The nested step puts the limit back after parse_with_lookahead has done so.
 REDUNDANT = ("the limit put back once, not twice", MATCHER, NESTED_BACK, "")
 
+# Two places of one line are at most 120 apart, whatever its base: so seven bits tell them apart.
+REDUNDANT_BITS = ("spans compared by their last 7 bits", MATCHER, SPANS_DIFFER, compared("{} % 128"))
+
 GRAMMAR = "driver/grammar.rs"
+MODEL = "driver/model.rs"
+
+TOO_GREAT = "if call.base > MOST_BASE {\n        return (refused(19, 0), none);\n    }\n"
+BAD_BUDGET = "if !(1..=MOST_VISITS).contains(&call.budget) {"
+BAD_LINE = "if let Some(place) = bad_line(&call.line) {"
+SPANS_WRITTEN = "base + *start as u32, base + *end as u32"
+BASES_LENGTH = "call.bases.len() != lines.len() || "
+LINE_BASE = "base: *base,"
+
+# The same of what the model says of bases.
+WRONG_MODEL = [
+    ("the greatest base refused", MODEL, "if call.base > MOST_BASE", "if call.base >= MOST_BASE"),
+    ("one more taken", MODEL, "if call.base > MOST_BASE", "if call.base > MOST_BASE + 1"),
+    ("a base refused by where its line ends", MODEL, "if call.base > MOST_BASE",
+     "if call.base.checked_add(call.line.len() as u32).is_none()"),
+    ("19 before 5", MODEL, BAD_BUDGET, TOO_GREAT + "    " + BAD_BUDGET),
+    ("19 before 3", MODEL, BAD_LINE, TOO_GREAT + "    " + BAD_LINE),
+    ("19 with a place", MODEL, "refused(19, 0)", "refused(19, 120)"),
+    ("6 for a base that is too great", MODEL, "refused(19, 0)", "refused(6, 0)"),
+    ("the base in the end alone", MODEL, SPANS_WRITTEN, "*start as u32, base + *end as u32"),
+    ("inner trees under base 0", MODEL, "write_tree(table, inner, base, words)", "write_tree(table, inner, 0, words)"),
+    ("bases of any length from the lines' number on", MODEL, BASES_LENGTH, "call.bases.len() < lines.len() || "),
+    ("as many bases as lines, or one for all", MODEL, [BASES_LENGTH, "zip(&call.bases) {"],
+     ["!(call.bases.len() == lines.len() || call.bases.len() == 1) || ", "zip(call.bases.iter().cycle()) {"]),
+    ("the first line's base for all", MODEL, LINE_BASE, "base: call.bases[0] + 0 * *base,"),
+    ("bases from the last line on", MODEL, "zip(&call.bases) {", "zip(call.bases.iter().rev()) {"),
+    ("a line's place in the text added to its base", MODEL, LINE_BASE,
+     "base: base.saturating_add((line.as_ptr() as usize - call.text.as_ptr() as usize) as u32),"),
+    ("a line of 19 stops the program", MODEL, "        singles.push((single, own, walked));\n",
+     "        if own.number == 19 {\n            return refused(17);\n        }\n        singles.push((single, own, walked));\n"),
+]
 
 FREE_END = "self.expression(c).into_iter().max()"
 GREEDY_END = "self.word(c, is_digit, is_digit).into_iter().max()"
@@ -231,9 +327,10 @@ def program_with(edit, folder):
 
 def seen_by(edit, folder, args):
     """The parts of the comparison that tell the copy apart."""
-    if edit[1] == GRAMMAR:
+    if edit[1] in (GRAMMAR, MODEL):
         program = program_with(edit, folder)
-        return [part for part in ["expressions"] if compare(BUILT, part, args, program)]
+        parts = ["expressions"] if edit[1] == GRAMMAR else MATCHING
+        return [part for part in parts if compare(BUILT, part, args, program)]
     oracle = copy_with(args.text, edit, folder)
     parts = ["selection"] if edit[1] == RESOLVER else MATCHING + GROUND
     return [part for part in parts if compare(oracle, part, args)]
@@ -250,14 +347,15 @@ def main():
     if not (BUILT / "compare").exists():
         sys.exit("wrong: run oracle/run first: it builds the program that compares")
     if any(compare(BUILT, part, args) for part in GROUND + MATCHING + ["expressions", "selection"]):
-        sys.exit("wrong: the proved code differs from the Rust or the grammar itself")
+        sys.exit("wrong: the proved code differs from the Rust, the grammar or the model itself")
 
     missed = 0
-    edits = [edit for edit in WRONG + [REDUNDANT] + WRONG_GRAMMAR + [REDUNDANT_END] if args.only in edit[0]]
+    edits = WRONG + [REDUNDANT, REDUNDANT_BITS] + WRONG_GRAMMAR + [REDUNDANT_END] + WRONG_MODEL
+    edits = [edit for edit in edits if args.only in edit[0]]
     for edit in edits:
         with tempfile.TemporaryDirectory() as folder:
             seen = seen_by(edit, pathlib.Path(folder), args)
-        missed += bool(seen) == (edit in (REDUNDANT, REDUNDANT_END))
+        missed += bool(seen) == (edit in (REDUNDANT, REDUNDANT_BITS, REDUNDANT_END))
         print(f"{'seen by ' + ' and '.join(seen) if seen else 'not seen':53} {edit[0]}", flush=True)
     print(f"{len(edits)} copies, {missed} judged wrongly")
     return 1 if missed else 0

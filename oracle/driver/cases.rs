@@ -24,7 +24,7 @@ pub struct Case {
 }
 
 impl Case {
-    /// The call. Parts stand one rule after another, or, if `random` is given, in a random
+    /// The call, with base 0. Parts stand one rule after another, or, if `random` is given, in a random
     /// order, with words between that no rule has, and the same words for rules that are equal.
     pub fn call(&self, random: Option<&mut Random>) -> Call {
         Call {
@@ -32,6 +32,7 @@ impl Case {
             line: self.line.clone(),
             sheet: self.sheet.clone(),
             budget: BUDGET,
+            base: 0,
             room: ROOM,
         }
     }
@@ -86,6 +87,11 @@ fn sheet_of(n: usize, unread: u8, mut end: impl FnMut(usize, usize, usize) -> u8
         }
     }
     sheet
+}
+
+/// A sheet whose ends are all at their limit.
+pub fn to_the_limit(n: usize) -> Vec<u8> {
+    sheet_of(n, 0, |_, _, l| l as u8)
 }
 
 // Random cases.
@@ -471,7 +477,7 @@ pub fn make(random: &mut Random) -> Case {
 
 // Programs.
 
-/// The program of these lines, each with its sheet and its budget, and with room for rows exactly.
+/// The program of these lines, each with its sheet, its budget and its base, and with room for rows exactly.
 pub fn joined(table: Vec<u16>, lines: &[Call], room: usize) -> ProgramCall {
     let mut call = ProgramCall {
         table,
@@ -479,6 +485,7 @@ pub fn joined(table: Vec<u16>, lines: &[Call], room: usize) -> ProgramCall {
         ends: Vec::new(),
         sheets: Vec::new(),
         budgets: Vec::new(),
+        bases: Vec::new(),
         rows: 2 * lines.len(),
         room,
     };
@@ -487,6 +494,7 @@ pub fn joined(table: Vec<u16>, lines: &[Call], room: usize) -> ProgramCall {
         call.ends.push(call.text.len() as u32);
         call.sheets.extend(&line.sheet);
         call.budgets.push(line.budget);
+        call.bases.push(line.base);
     }
     call
 }
@@ -785,7 +793,7 @@ fn all_sheets(n: usize) -> Vec<Vec<u8>> {
     let greedy = if n <= 1 {
         halves.clone()
     } else {
-        let limits = sheet_of(n, 0, |_, _, l| l as u8);
+        let limits = to_the_limit(n);
         let none = sheet_of(n, 0, |_, _, _| 255);
         [limits, none].map(|s| s[..(n + 1) * (n + 1)].to_vec()).to_vec()
     };
@@ -901,7 +909,8 @@ fn damage_word(random: &mut Random, words: &mut [u16]) {
     };
 }
 
-fn resize<T: Copy>(random: &mut Random, words: &mut Vec<T>, with: T) {
+/// One more of something, or one to four fewer.
+pub fn resize<T: Copy>(random: &mut Random, words: &mut Vec<T>, with: T) {
     if random.chance(500) {
         words.push(with);
     } else {

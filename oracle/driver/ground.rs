@@ -1,5 +1,7 @@
 //! Compares a walker's moves and cuts, and the rules that lookup tries, one by one: with the Rust where the cursor is at most
-//! the limit and that at most the line's length, and with the model everywhere.
+//! the limit and that at most the line's length, and with the model everywhere. The Rust's walker knows where its line begins
+//! in the file, the proved one does not: so each move of the Rust's is made under some base, and must be the same under all.
+use crate::bases;
 use crate::cases;
 use crate::model;
 use crate::random::Random;
@@ -31,7 +33,7 @@ fn model_moves(line: &[u8], w: Walker, wanted: u8) -> Moves {
     }
 }
 
-fn moves(report: &mut Report, line: &[u8], w: Walker, wanted: u8) {
+fn moves(report: &mut Report, line: &[u8], base: u32, w: Walker, wanted: u8) {
     let text = String::from_utf8_lossy(line);
     let here = held(line, w);
     let told = sides::proved_moves(line, w, wanted);
@@ -44,11 +46,14 @@ fn moves(report: &mut Report, line: &[u8], w: Walker, wanted: u8) {
     }
     // The Rust's line is text, and it finds a byte 0 at the limit (docs/DIFFERENCES.md); no line and no part has one.
     if w == here && line.is_ascii() && wanted.is_ascii() && wanted != 0 {
-        let rust = sides::rust_moves(line, w, wanted);
+        let rust = sides::rust_moves(line, base, w, wanted);
         report.see("walker moves, cuts and tests against the Rust", true);
+        report.see("  under a base past 0", base > 0);
         report.see("  a cut found", told.cut.is_some());
         if told != rust {
-            report.differ(format!("{text:?} {w:?} {wanted}: proved {told:?}, Rust {rust:?}"));
+            report.differ(format!(
+                "{text:?} {w:?} {wanted}: proved {told:?}, Rust at base {base} {rust:?}"
+            ));
         }
     }
 }
@@ -88,12 +93,13 @@ fn walkers(report: &mut Report, line: &[u8], w: Walker, place: usize, end: usize
 /// Every line of at most four bytes out of letters in both cases, a sign, brackets and whitespace; every walker within it;
 /// every wanted byte among those.
 pub fn short_lines(report: &mut Report) {
+    let random = &mut bases::stream(0, 0);
     let bytes = b"aA+(){} \r";
     for line in cases::all_up_to(bytes, 4) {
         for limit in 0..=line.len() {
             for cursor in 0..=limit {
                 for wanted in bytes {
-                    moves(report, &line, Walker { cursor, limit }, *wanted);
+                    moves(report, &line, bases::good(random), Walker { cursor, limit }, *wanted);
                 }
             }
         }
@@ -122,9 +128,16 @@ pub fn short_walkers(report: &mut Report) {
 
 /// Every byte wanted in every line of one byte.
 pub fn all_bytes(report: &mut Report) {
+    let random = &mut bases::stream(0, 0);
     for byte in 0..=255 {
         for wanted in 0..=255 {
-            moves(report, &[byte], Walker { cursor: 0, limit: 1 }, wanted);
+            moves(
+                report,
+                &[byte],
+                bases::good(random),
+                Walker { cursor: 0, limit: 1 },
+                wanted,
+            );
         }
     }
 }
@@ -147,8 +160,9 @@ pub fn random_lines(report: &mut Report, seed: u64, cases: u64) {
             limit: place(random),
         };
         let end = place(random);
-        moves(report, &line, w, *random.pick(alphabet));
-        moves(report, &line, held(&line, w), *random.pick(alphabet));
+        let base = bases::good(&mut bases::stream(seed, number));
+        moves(report, &line, base, w, *random.pick(alphabet));
+        moves(report, &line, base, held(&line, w), *random.pick(alphabet));
         // Drawn last: what is drawn before it stays the same for a seed.
         let other = place(random);
         walkers(report, &line, w, other, end);

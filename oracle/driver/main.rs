@@ -8,6 +8,7 @@
 //! `--cases` is how many random cases of the seed are made; `--quick` leaves out the exhaustive short ones. `--record` writes
 //! the recorded sample (record.rs) and compares nothing. The last line is 'N passed, M failed', where each of the six is one
 //! test, which passes if nothing differs. Ends with 1 if anything differs, 2 if it is used wrongly.
+mod bases;
 mod cases;
 mod expressions;
 mod grammar;
@@ -24,6 +25,7 @@ mod random;
 mod raw;
 #[path = "../../rust/src/readings.rs"]
 #[rustfmt::skip]
+#[allow(dead_code)]
 mod readings;
 mod record;
 mod report;
@@ -93,6 +95,8 @@ fn prefixes(report: &mut Report, args: &Args) {
 
 fn matching(report: &mut Report, args: &Args) {
     matching::numbers(report);
+    matching::edges(report);
+    matching::checks(report);
     if !args.quick {
         matching::short(report);
     }

@@ -1,6 +1,6 @@
-//! The third reading: document 01 in plain Rust, slowly and from its sentences alone, neither the published text nor the
-//! proved code. It is the independent check of every refusal, counts the visits and records that the Rust does not report,
-//! and tells what a case exercises.
+//! The third reading: documents 01 and 02 in plain Rust, slowly and from their sentences alone, neither the published text nor
+//! the proved code. It is the independent check of every refusal, counts the visits and records that the Rust does not
+//! report, and tells what a case exercises.
 
 const WHITESPACE: u16 = 256;
 const EXPRESSION: u16 = 257;
@@ -10,6 +10,7 @@ const LONGEST_LINE: usize = 120;
 const MOST_VISITS: u32 = 1_000_000;
 const DEEPEST: usize = 16;
 const MOST_RECORDS: u64 = 4096;
+const MOST_BASE: u32 = 4_294_967_175;
 const NO_END: u8 = 255;
 
 /// What a match call is given.
@@ -19,6 +20,7 @@ pub struct Call {
     pub line: Vec<u8>,
     pub sheet: Vec<u8>,
     pub budget: u32,
+    pub base: u32,
     pub room: usize,
 }
 
@@ -29,7 +31,7 @@ pub struct Answer {
     pub visits: u32,
     pub words: u32,
     pub place: u32,
-    pub answer: Vec<u16>,
+    pub answer: Vec<u32>,
 }
 
 /// What a walk did, beside its answer.
@@ -431,13 +433,13 @@ fn exact_count(table: &Table, tree: &Tree) -> u64 {
     own.count() as u64 + inner.map(|t| exact_count(table, t)).sum::<u64>()
 }
 
-fn write_tree(table: &Table, tree: &Tree, words: &mut Vec<u16>) {
+fn write_tree(table: &Table, tree: &Tree, base: u32, words: &mut Vec<u32>) {
     let rule = &table.rules[tree.rule];
-    words.extend([rule.set as u16, rule.number as u16, tree.args.len() as u16]);
+    words.extend([rule.set as u32, rule.number as u32, tree.args.len() as u32]);
     for (start, end, inner) in &tree.args {
-        words.extend([inner.is_some() as u16, *start as u16, *end as u16]);
+        words.extend([inner.is_some() as u32, base + *start as u32, base + *end as u32]);
         if let Some(inner) = inner {
-            write_tree(table, inner, words);
+            write_tree(table, inner, base, words);
         }
     }
 }
@@ -462,6 +464,9 @@ pub fn answer(call: &Call, lookup: bool) -> (Answer, Walked) {
     }
     if !(1..=MOST_VISITS).contains(&call.budget) {
         return (refused(5, 0), none);
+    }
+    if call.base > MOST_BASE {
+        return (refused(19, 0), none);
     }
 
     let mut walk = Walk {
@@ -488,10 +493,10 @@ pub fn answer(call: &Call, lookup: bool) -> (Answer, Walked) {
     let counts: Vec<u64> = found.iter().map(|t| exact_count(&table, t)).collect();
     let greatest = counts.iter().max().copied().unwrap_or(0);
     let best = found.iter().zip(&counts).filter(|(_, c)| **c == greatest);
-    let mut words = vec![0, greatest as u16];
+    let mut words = vec![0, greatest as u32];
     for (tree, _) in best {
         words[0] += 1;
-        write_tree(&table, tree, &mut words);
+        write_tree(&table, tree, call.base, &mut words);
     }
     let needed = words.len() as u32;
     let mut result = if words.len() > call.room {
@@ -518,6 +523,7 @@ pub struct ProgramCall {
     pub ends: Vec<u32>,
     pub sheets: Vec<u8>,
     pub budgets: Vec<u32>,
+    pub bases: Vec<u32>,
     pub rows: usize,
     pub room: usize,
 }
@@ -530,7 +536,7 @@ pub struct ProgramAnswer {
     pub words: u32,
     pub place: u32,
     pub rows: Vec<u32>,
-    pub answers: Vec<u16>,
+    pub answers: Vec<u32>,
 }
 
 /// The bytes of each line and of its sheet, if the lines are as many as may be and their ends and sheets fit.
@@ -565,17 +571,18 @@ pub fn program(call: &ProgramCall, lookup: bool) -> (ProgramAnswer, Vec<(Call, A
     let Some(lines) = lines_of(call) else {
         return refused(17);
     };
-    if call.budgets.len() != lines.len() || call.rows != 2 * lines.len() {
+    if call.budgets.len() != lines.len() || call.bases.len() != lines.len() || call.rows != 2 * lines.len() {
         return refused(17);
     }
 
     let (mut told, mut singles) = (ProgramAnswer::default(), Vec::new());
-    for ((line, sheet), budget) in lines.into_iter().zip(&call.budgets) {
+    for (((line, sheet), budget), base) in lines.into_iter().zip(&call.budgets).zip(&call.bases) {
         let single = Call {
             table: call.table.clone(),
             line: line.to_vec(),
             sheet: sheet.to_vec(),
             budget: *budget,
+            base: *base,
             room: call.room - told.answers.len(),
         };
         let (own, walked) = answer(&single, lookup);

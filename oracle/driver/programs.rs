@@ -1,5 +1,6 @@
 //! Compares programs: on every input with the model's rows and words, each line of number 0, 1 or 9 with what the Rust answers
-//! to that line alone, and lookup with the scan.
+//! to that line alone, lookup with the scan, and a program with that of the same lines under base 0.
+use crate::bases;
 use crate::cases;
 use crate::matching::{number_name, with_rust};
 use crate::model::{self, Answer, ProgramAnswer, ProgramCall};
@@ -43,7 +44,41 @@ fn compare(report: &mut Report, call: &ProgramCall, lookup: bool) -> (ProgramAns
         answers.push(answer);
     }
     seen(report, call, &told);
+    if told.number == 0 && !told.rows.iter().step_by(2).any(|number| *number == 19) {
+        beside_zero(report, call, lookup, how, &told, &answers);
+    }
     (told, answers)
+}
+
+/// Compares a program of which no line is refused by 19 with what the proved code says of it under bases 0: the rows are the
+/// same, and every start and end is moved by its line's base. (A line that is refused by 19 may leave room to later ones.)
+fn beside_zero(
+    report: &mut Report,
+    call: &ProgramCall,
+    lookup: bool,
+    how: &str,
+    told: &ProgramAnswer,
+    lines: &[Answer],
+) {
+    let at_zero = ProgramCall {
+        bases: vec![0; call.bases.len()],
+        ..call.clone()
+    };
+    let (zero, _) = proved_program(&at_zero, lookup);
+    let same = zero.rows == told.rows && zero.answers.len() == told.answers.len();
+    let moved = |(line, (row, base)): (&Answer, (&[u32], &u32))| {
+        let words = zero
+            .answers
+            .get(row[1] as usize..)
+            .and_then(|words| words.get(..line.answer.len()));
+        let moved = words.and_then(|words| bases::moved(words, *base));
+        moved.is_some_and(|moved| moved.into_iter().eq(line.answer.iter().map(|word| *word as u64)))
+    };
+    let rows = told.rows.chunks(2).zip(&call.bases);
+    report.see("programs held to bases 0", true);
+    if !same || !lines.iter().zip(rows).all(moved) {
+        report.differ(format!("{how}: proved {told:?}, under bases 0 {zero:?} of {call:?}"));
+    }
 }
 
 fn program_name(number: u32) -> &'static str {
@@ -75,6 +110,10 @@ fn seen(report: &mut Report, call: &ProgramCall, told: &ProgramAnswer) {
     report.see(
         "  a match after an answer that found no room",
         first(9).is_some_and(|full| last(0).is_some_and(|matched| matched > full)),
+    );
+    report.see(
+        "  a match after a base that is too great",
+        first(19).is_some_and(|refused| last(0).is_some_and(|matched| matched > refused)),
     );
     report.see(
         "  answers exactly full",
@@ -120,15 +159,30 @@ pub fn numbers(report: &mut Report) {
         report.see(program_name(number), false);
     }
     report.see("lines", false);
-    for number in [0, 1, 3, 4, 5, 6, 7, 8, 9] {
+    for number in [0, 1, 3, 4, 5, 6, 7, 8, 9, 19] {
         report.see(number_name(number), false);
     }
 }
 
-/// Every list of at most three ends from 0 to 4 over the text `aaa`, with as many sheets, budgets and rows as its lines have,
-/// and with one byte or word more and fewer of each. The table has the rules `a`, `a a` and one of no parts.
+/// A base for each line: half of the programs have some that are too great.
+fn some_bases(random: &mut Random, lines: usize) -> Vec<u32> {
+    let refused = *random.pick(&[0, 250]);
+    let one = |_| {
+        if random.chance(refused) {
+            bases::too_great(random)
+        } else {
+            bases::good(random)
+        }
+    };
+    (0..lines).map(one).collect()
+}
+
+/// Every list of at most three ends from 0 to 4 over the text `aaa`, with as many sheets, budgets, bases and rows as its lines
+/// have, and with one byte or word more and fewer of each; and with every room up to what three answers take. The table has
+/// a rule that is a nested `a`, one that is `a a` and one of no parts.
 pub fn shapes(report: &mut Report) {
-    let table = vec![1, 3, 3, 0, 0, 0, 1, 0, 1, 2, 0, 3, 0, 97, 97, 97];
+    let random = &mut bases::stream(0, 0);
+    let table = vec![2, 4, 4, 0, 1, 0, 0, 1, 0, 1, 2, 0, 3, 0, 1, 3, 1, 513, 97, 97, 97];
     for ends in cases::all_up_to(&[0, 1, 2, 3, 4], 3) {
         let starts = [0].iter().chain(&ends);
         let side = |(end, start): (&u32, &u32)| end.saturating_sub(*start) as usize + 1;
@@ -138,6 +192,7 @@ pub fn shapes(report: &mut Report) {
             text: b"aaa".to_vec(),
             sheets: vec![255; sheets],
             budgets: vec![cases::BUDGET; ends.len()],
+            bases: some_bases(random, ends.len()),
             rows: 2 * ends.len(),
             room: 64,
             ends,
@@ -153,15 +208,16 @@ pub fn shapes(report: &mut Report) {
         }
         for more in [false, true] {
             let resized = |length: usize| if more { length + 1 } else { length.saturating_sub(1) };
-            let mut spoilt = [good.clone(), good.clone(), good.clone()];
+            let mut spoilt = [good.clone(), good.clone(), good.clone(), good.clone()];
             spoilt[0].sheets.resize(resized(good.sheets.len()), 255);
             spoilt[1].budgets.resize(resized(good.budgets.len()), cases::BUDGET);
             spoilt[2].rows = resized(good.rows);
+            spoilt[3].bases.resize(resized(good.bases.len()), 0);
             for call in &spoilt {
                 both(report, call);
             }
         }
-        for room in 0..16 {
+        for room in 0..34 {
             both(report, &ProgramCall { room, ..good.clone() });
         }
     }
@@ -171,7 +227,9 @@ pub fn shapes(report: &mut Report) {
 pub fn random(report: &mut Report, seed: u64, cases: u64) {
     for number in 0..cases {
         let random = &mut Random::new(seed, number);
-        let call = cases::program(random);
+        let bases = &mut bases::stream(seed, number);
+        let mut call = cases::program(random);
+        call.bases = some_bases(bases, call.ends.len());
         let told = both(report, &call);
         let words = told.answers.len();
         if told.number == 0 && words > 0 && random.chance(300) {
@@ -182,6 +240,12 @@ pub fn random(report: &mut Report, seed: u64, cases: u64) {
         if random.chance(300) {
             report.see("damaged programs", true);
             both(report, &cases::damaged_program(random, &call));
+        }
+        if bases.chance(100) {
+            let mut call = call.clone();
+            cases::resize(bases, &mut call.bases, 0);
+            report.see("bases of another length", call.bases.len() != call.ends.len());
+            both(report, &call);
         }
     }
 }

@@ -6,7 +6,9 @@
 //!
 //! A call is a line of crates/recorded/stdin, its answer a line of crates/recorded/stdout; that crate's main file says how
 //! they read.
+use crate::bases;
 use crate::cases::{self, Case};
+use crate::grammar;
 use crate::model::{self, Answer, Call};
 use crate::notation::rule;
 use crate::random::Random;
@@ -15,7 +17,10 @@ use std::fmt::Write;
 
 const SEED: u64 = 2026;
 const RANDOM_CASES: usize = 150;
-const UNTOUCHED: u16 = 65535;
+
+/// What stands at each place of a buffer before a call: no answer word and no index is this.
+const UNTOUCHED: u32 = 4_000_000_000;
+const UNTOUCHED_INDEX: u16 = 65535;
 
 /// Stands for: as much room as the answer needs, and a place more.
 const FITTING: usize = usize::MAX;
@@ -45,7 +50,7 @@ fn answer_of(call: &Call, lookup: bool) -> Answer {
         if answer.number == 9 {
             assert!(words.len() == answer.words as usize);
         } else {
-            assert!(words == answer.answer);
+            assert!(words.into_iter().eq(answer.answer.iter().map(|word| *word as u64)));
         }
     }
     answer
@@ -63,9 +68,10 @@ impl Sample {
             .collect();
         writeln!(
             self.calls,
-            "{name}, {how}: {} {} {} {}{} {}{} {} {}{}",
+            "{name}, {how}: {} {} {} {} {}{} {}{} {} {}{}",
             lookup as u32,
             call.budget,
+            call.base,
             call.room,
             call.table.len(),
             numbers(&call.table),
@@ -126,7 +132,7 @@ impl Sample {
                 assert!(sides::rust_choice(words, last, told.number).expect("the Rust panics") == told);
             }
             let mut buffer = told.chosen;
-            buffer.resize(room, UNTOUCHED);
+            buffer.resize(room, UNTOUCHED_INDEX);
             writeln!(
                 self.answers,
                 "{name}, {pass}: {} {} |{} |{}",
@@ -329,6 +335,72 @@ fn carriage_returns(sample: &mut Sample) {
     sample.both("13 alone", &call(&[&[""]], "\r", &[]));
 }
 
+/// Trees three deep, with an expression at each depth.
+fn nested_spans() -> Call {
+    let rules: &[&[&str]] = &[&["{1}"], &["({1}, {})", "{}"]];
+    let line = "((ab, c), de)";
+    Call {
+        sheet: grammar::sheet(line.as_bytes()),
+        ..call(rules, line, &[])
+    }
+}
+
+/// Bases on both sides of what 16 and 31 bits hold, the greatest, and those that are refused.
+fn file_places(sample: &mut Sample) {
+    let [sixteen, signed] = bases::MARKS;
+    for base in [
+        1,
+        200,
+        sixteen - 5,
+        sixteen - 1,
+        sixteen,
+        signed - 4,
+        signed,
+        bases::GREATEST - 1,
+        bases::GREATEST,
+        bases::GREATEST + 1,
+        u32::MAX,
+    ] {
+        sample.but(&format!("bench 1 at {base}"), &on_t(), |c| c.base = base);
+    }
+    for base in [sixteen - 7, signed - 2, bases::GREATEST] {
+        sample.but(&format!("trees three deep at {base}"), &nested_spans(), |c| {
+            c.base = base
+        });
+        sample.but(
+            &format!("ends with one useful place at {base}"),
+            &one_useful_place(),
+            |c| c.base = base,
+        );
+        let inner: &[&[&str]] = &[&["{1}+b"], &["a", "a", "A", "{}"]];
+        let twice = call(inner, "a+b", &[[0, 0, 3, 1], [0, 0, 1, 1]]);
+        sample.but(&format!("inner matches that are the same at {base}"), &twice, |c| {
+            c.base = base
+        });
+        let apart: &[&[&str]] = &[&["{1}+{}"], &["{}"]];
+        let ends = [[0, 0, 5, 3], [0, 0, 1, 1], [0, 2, 5, 5], [0, 4, 5, 5]];
+        sample.but(
+            &format!("inner matches that differ by an end at {base}"),
+            &call(apart, "a+b+c", &ends),
+            |c| c.base = base,
+        );
+    }
+    let long = call(&[&["{}", "{1}"], &["{}"]], &"a".repeat(120), &[[0, 0, 120, 120]]);
+    for base in [bases::GREATEST - 1, bases::GREATEST, bases::GREATEST + 1] {
+        sample.but(&format!("a line of 120 at {base}"), &long, |c| c.base = base);
+    }
+    let past = bases::GREATEST + 1;
+    let good = on_t();
+    sample.but("2 before 19", &good, |c| (c.table[0], c.base) = (0, past));
+    sample.but("3 before 19", &good, |c| (c.line[0], c.base) = (59, past));
+    sample.but("4 before 19", &good, |c| (c.sheet[23], c.base) = (6, past));
+    sample.but("5 before 19", &good, |c| (c.budget, c.base) = (0, past));
+    sample.but("19 before 6", &good, |c| (c.budget, c.base) = (1, past));
+    sample.but("19 before 7", &chain(18), |c| c.base = past);
+    sample.but("19 before 1", &call(&[&["b"]], "a", &[]), |c| c.base = past);
+    sample.but("19 before 9", &good, |c| (c.room, c.base) = (0, past));
+}
+
 /// So many rulesets, all top, rules in the first of them, and parts in each rule, all `b` but those of the last rule, which
 /// are `a`; on so many `a`.
 fn large(rulesets: usize, rules: usize, parts: usize) -> Call {
@@ -501,7 +573,7 @@ fn refusals(sample: &mut Sample) {
     sample.but("4097 records, budget 3073", &crowd(345), |c| c.budget = 3073);
 }
 
-/// Random cases that are short enough to be read.
+/// Random cases that are short enough to be read, a third of them under other bases than 0.
 fn random(sample: &mut Sample) {
     let mut made = 0;
     for number in 0.. {
@@ -519,6 +591,9 @@ fn random(sample: &mut Sample) {
             continue;
         }
         made += 1;
+        if made % 3 == 0 {
+            call.base = bases::good(&mut bases::stream(SEED, number));
+        }
         sample.both(&format!("random {number}"), &call);
     }
 }
@@ -551,6 +626,7 @@ pub fn write(folder: &str) -> std::io::Result<()> {
     bench(sample);
     steps(sample);
     carriage_returns(sample);
+    file_places(sample);
     limits(sample);
     refusals(sample);
     selections(sample);

@@ -5,8 +5,11 @@ use crate::model::{Answer, Call, Chosen, ProgramAnswer, ProgramCall};
 use crate::raw::{self, Order, Program};
 use crate::shown::{self, Seen, PANICKED};
 
-/// What stands at each place of a lent buffer before a call. No answer word and no index is this.
-const UNTOUCHED: u16 = 65535;
+/// What stands at each place of a lent buffer before a call. No answer word is this: no base is made near it.
+const UNTOUCHED: u32 = 4_000_000_000;
+
+/// The same of indices.
+const UNTOUCHED_INDEX: u16 = 65535;
 
 /// The same of rows.
 const UNTOUCHED_ROW: u32 = u32::MAX;
@@ -61,8 +64,9 @@ extern "C" {
         line_len: usize,
         sheet: *const u8,
         sheet_len: usize,
+        base: u32,
         lookup: u32,
-        out: *mut u16,
+        out: *mut u64,
         out_len: usize,
         seen: *mut Seen,
     ) -> u32;
@@ -74,7 +78,15 @@ extern "C" {
         out_len: usize,
         count: *mut u32,
     ) -> u32;
-    fn oracle_moves(line: *const u8, len: usize, cursor: usize, limit: usize, wanted: u8, moves: *mut shown::Moves);
+    fn oracle_moves(
+        line: *const u8,
+        len: usize,
+        base: u32,
+        cursor: usize,
+        limit: usize,
+        wanted: u8,
+        moves: *mut shown::Moves,
+    );
     fn oracle_query(
         table: *const u16,
         table_len: usize,
@@ -90,7 +102,7 @@ const RUST_ROOM: usize = 70_000;
 
 thread_local! {
     /// Kept from call to call: filling so much anew would cost more than the call.
-    static RUST_WORDS: std::cell::RefCell<Vec<u16>> = std::cell::RefCell::new(vec![0; RUST_ROOM]);
+    static RUST_WORDS: std::cell::RefCell<Vec<u64>> = std::cell::RefCell::new(vec![0; RUST_ROOM]);
 }
 
 /// Lends a buffer of so many words to a call, which says how many it wrote. What it returned, what it wrote at the buffer's
@@ -110,9 +122,14 @@ fn lend<W: Copy + PartialEq, T>(
 /// What a call of the proved matcher returned, and whether it left alone what it had to: the buffer after its answer, all of
 /// the buffer on a refusal.
 pub fn proved_match(call: &Call, lookup: bool) -> (Answer, bool) {
+    proved_match_at(call, call.base, lookup)
+}
+
+/// The same with another base than the call's own.
+pub fn proved_match_at(call: &Call, base: u32, lookup: bool) -> (Answer, bool) {
     let order = if lookup { Order::Lookup } else { Order::Scan };
     let (told, answer, left_alone) = lend(UNTOUCHED, call.room, |buffer| {
-        let told = raw::call(order, &call.table, &call.line, &call.sheet, call.budget, buffer);
+        let told = raw::call(order, &call.table, &call.line, &call.sheet, call.budget, base, buffer);
         let written = if told.number == 0 { told.words as usize } else { 0 };
         (told, written)
     });
@@ -135,6 +152,7 @@ pub fn proved_program(call: &ProgramCall, lookup: bool) -> (ProgramAnswer, bool)
         ends: &call.ends,
         sheets: &call.sheets,
         budgets: &call.budgets,
+        bases: &call.bases,
     };
     let ((told, answers, answers_left), rows, rows_left) = lend(UNTOUCHED_ROW, call.rows, |rows| {
         let told = lend(UNTOUCHED, call.room, |answers| {
@@ -176,8 +194,9 @@ pub fn proved_fill(line: &[u8], room: usize) -> (Filled, bool) {
 
 // Every unsafe call below lends slices by their own pointers and lengths.
 
-/// The Rust's answer words, none for no match, and what its calls showed. Nothing if it panicked.
-pub fn rust_match(call: &Call, lookup: bool) -> Option<(Vec<u16>, Seen)> {
+/// The Rust's answer words, none for no match, and what its calls showed. Its places are as wide as its own numbers. Nothing
+/// if it panicked.
+pub fn rust_match(call: &Call, lookup: bool) -> Option<(Vec<u64>, Seen)> {
     let mut seen = Seen::default();
     RUST_WORDS.with(|words| {
         let words = &mut *words.borrow_mut();
@@ -189,6 +208,7 @@ pub fn rust_match(call: &Call, lookup: bool) -> Option<(Vec<u16>, Seen)> {
                 call.line.len(),
                 call.sheet.as_ptr(),
                 call.sheet.len(),
+                call.base,
                 lookup as u32,
                 words.as_mut_ptr(),
                 words.len(),
@@ -212,7 +232,7 @@ pub fn rust_match(call: &Call, lookup: bool) -> Option<(Vec<u16>, Seen)> {
 /// What a call of the proved selection returned, and whether it left the rest of the buffer alone.
 pub fn proved_select(words: &[u32], last: u32, room: usize) -> (Chosen, bool) {
     let mut words = words.to_vec();
-    let (told, chosen, left_alone) = lend(UNTOUCHED, room, |buffer| {
+    let (told, chosen, left_alone) = lend(UNTOUCHED_INDEX, room, |buffer| {
         let told = raw::select(&mut words, last, buffer);
         let written = if told.number == 0 { told.count as usize } else { 0 };
         (told, written)
@@ -249,7 +269,7 @@ pub fn rust_choice(words: &[u32], last: bool, expected: u32) -> Option<Chosen> {
 /// The Rust's choice among outcomes of kinds 1 to 3. Nothing if it panicked.
 fn rust_select(words: &[u32], last: bool) -> Option<Chosen> {
     let mut words = words.to_vec();
-    let mut buffer = vec![UNTOUCHED; words.len()];
+    let mut buffer = vec![UNTOUCHED_INDEX; words.len()];
     let mut count = 0;
     let number = unsafe {
         oracle_select(
@@ -315,9 +335,10 @@ pub fn proved_walkers(line: &[u8], w: Walker, place: usize, end: usize) -> Walke
     }
 }
 
-pub fn rust_moves(line: &[u8], w: Walker, wanted: u8) -> Moves {
+/// The same of the Rust, for a line that begins at a base; places are told as places of the line.
+pub fn rust_moves(line: &[u8], base: u32, w: Walker, wanted: u8) -> Moves {
     let mut moves = shown::Moves::default();
-    unsafe { oracle_moves(line.as_ptr(), line.len(), w.cursor, w.limit, wanted, &mut moves) };
+    unsafe { oracle_moves(line.as_ptr(), line.len(), base, w.cursor, w.limit, wanted, &mut moves) };
     assert_eq!(moves.limit, w.limit);
     Moves {
         is_over: moves.is_over != 0,
@@ -333,7 +354,7 @@ pub fn rust_moves(line: &[u8], w: Walker, wanted: u8) -> Moves {
 
 /// The rules that lookup tries, by their places among the table's records.
 pub fn proved_query(table: &[u16], line: &[u8], room: usize) -> Vec<u16> {
-    let (count, found, left_alone) = lend(UNTOUCHED, room, |buffer| {
+    let (count, found, left_alone) = lend(UNTOUCHED_INDEX, room, |buffer| {
         let count = unsafe {
             probe_query_prefixed(
                 table.as_ptr(),

@@ -45,18 +45,18 @@ fn other_readings(scan: &Answer, lookup: &Answer) -> Option<&'static str> {
 
 /// An answer's greatest count, and its trees, each by the words that say it. Nothing if its words are no whole answer, or if
 /// something in them is lost when they are read.
-fn read(answer: &Answer) -> Option<(u16, Vec<Vec<u16>>)> {
+fn read(answer: &Answer) -> Option<(u32, Vec<Vec<u32>>)> {
     let readings = Readings::read(&answer.answer)?;
-    let trees: Vec<Vec<u16>> = readings.trees.iter().map(words_of).collect();
-    let mut whole = vec![trees.len() as u16, readings.count];
+    let trees: Vec<Vec<u32>> = readings.trees.iter().map(words_of).collect();
+    let mut whole = vec![trees.len() as u32, readings.count];
     whole.extend(trees.iter().flatten());
     (whole == answer.answer).then_some((readings.count, trees))
 }
 
-fn words_of(tree: &Tree) -> Vec<u16> {
-    let mut words = vec![tree.ruleset, tree.rule, tree.arguments.len() as u16];
+fn words_of(tree: &Tree) -> Vec<u32> {
+    let mut words = vec![tree.ruleset, tree.rule, tree.arguments.len() as u32];
     for argument in &tree.arguments {
-        let span = [argument.span.start as u16, argument.span.end as u16];
+        let span = [argument.span.start, argument.span.end];
         match &argument.kind {
             Kind::Expression => words.extend([0, span[0], span[1]]),
             Kind::Nested(inner) => {

@@ -7,8 +7,8 @@ use crate::shown::{Moves, Seen, PANICKED};
 use crate::*;
 use std::slice::{from_raw_parts, from_raw_parts_mut};
 
-/// Runs `match_instr`, by prefix lookup unless `lookup` is 0. Writes document 01's answer words if they fit, and returns
-/// their number: 0 for no match.
+/// Runs `match_instr` on a line that begins at `base` of its file, by prefix lookup unless `lookup` is 0. Writes document
+/// 01's answer words if they fit, and returns their number: 0 for no match.
 #[no_mangle]
 pub unsafe extern "C" fn oracle_match(
     table: *const u16,
@@ -17,8 +17,9 @@ pub unsafe extern "C" fn oracle_match(
     line_len: usize,
     sheet: *const u8,
     sheet_len: usize,
+    base: u32,
     lookup: u32,
-    out: *mut u16,
+    out: *mut u64,
     out_len: usize,
     seen: *mut Seen,
 ) -> u32 {
@@ -30,7 +31,7 @@ pub unsafe extern "C" fn oracle_match(
     let answer = std::panic::catch_unwind(|| {
         let defs = unpack_table(table);
         count::reset();
-        let matches = run_match(&defs, line, sheet, lookup != 0);
+        let matches = run_match(&defs, line, sheet, base as usize, lookup != 0);
         let mut tally = count::tally();
         // The size guesses, after the walk, fetch the rule of each match of the answer once more.
         tally.rules -= nodes(&matches);
@@ -88,30 +89,32 @@ pub unsafe extern "C" fn oracle_select(
     }
 }
 
-/// A walker with this cursor and limit, over the line alone: its offset is 0.
-fn walker_at(line: &[u8], cursor: usize, limit: usize) -> syntax::Walker<'_> {
-    let mut walker = syntax::Walker::new(std::str::from_utf8(line).unwrap(), FILE, 0);
+/// A walker with this cursor and limit, over a line that begins at `base` of its file.
+fn walker_at(line: &[u8], base: usize, cursor: usize, limit: usize) -> syntax::Walker<'_> {
+    let mut walker = syntax::Walker::new(std::str::from_utf8(line).unwrap(), FILE, base);
     let token = syntax::Token {
         kind: syntax::TokenKind::Other,
-        span: diagn::Span::new(FILE, 0, cursor),
+        span: diagn::Span::new(FILE, base, base + cursor),
     };
     walker.advance_to_token_end(&token);
     walker.set_cursor_limit(limit);
     walker
 }
 
-/// The moves of a walker whose cursor is at most its limit, and that at most the line's length, for one wanted byte.
+/// The moves of a walker whose cursor is at most its limit, and that at most the line's length, for one wanted byte. The line
+/// begins at `base` of its file, and every place told is one of the line.
 #[no_mangle]
 pub unsafe extern "C" fn oracle_moves(
     line: *const u8,
     line_len: usize,
+    base: u32,
     cursor: usize,
     limit: usize,
     wanted: u8,
     moves: *mut Moves,
 ) {
     let line = from_raw_parts(line, line_len);
-    let walker = walker_at(line, cursor, limit);
+    let walker = walker_at(line, base as usize, cursor, limit);
     let mut moved = walker.clone();
     let found = moved.maybe_expect_char(wanted as char);
     let whitespace = walker.is_over() || walker.next_token().kind == syntax::TokenKind::Whitespace;
@@ -142,7 +145,7 @@ pub unsafe extern "C" fn oracle_query(
 ) -> u32 {
     let defs = unpack_table(from_raw_parts(table, table_len));
     let line = from_raw_parts(line, line_len);
-    let prefix = asm::RuledefMap::parse_prefix(walker_at(line, 0, line_len));
+    let prefix = asm::RuledefMap::parse_prefix(walker_at(line, 0, 0, line_len));
 
     let mut words = Vec::new();
     for (length, entries) in defs.ruledef_map.query_prefixed(prefix).iter().enumerate() {

@@ -2,6 +2,8 @@
 //! that the driver can tell one refusal of `resolve_encoding` from another.
 use crate::*;
 
+/// The published text hands over and takes back places as `usize`. How customasm's own span holds them, and which spans have no
+/// location, is not in it: here every span has one, whatever its places.
 #[derive(Copy, Debug, PartialEq)]
 pub struct Span {
     pub file_handle: util::FileServerHandle,

@@ -1,7 +1,7 @@
 //! The oracle: customasm's published matcher, ruledef map, walker and `resolve_encoding`, read at build time from the
 //! folder named by CUSTOMASM_SRC and unchanged, over stubs for what is not published. Each stub's file says what it stands
 //! in for. This file takes the place of customasm's `lib.rs`: it reads document 01's packed words into the Rust's own types
-//! and writes its answers as document 01's words.
+//! and writes its answers as document 01's words, with the spans that the Rust gives.
 //!
 //! Input is taken as good: nothing here may be called on refused input, nor where the Rust's recursion would not end.
 #![allow(dead_code, unexpected_cfgs)]
@@ -15,19 +15,25 @@ pub mod shown;
 pub mod syntax;
 pub mod util;
 
-/// The line stands at a place other than 0 of a file other than 0, so that a forgotten offset shows.
+/// The line stands in a file other than 0, so that a forgotten handle shows.
 const FILE: util::FileServerHandle = 3;
-const OFFSET: usize = 1000;
 
-/// `match_instr` on a line and its extent sheet, by full scan or by prefix lookup.
-pub fn run_match(defs: &asm::ItemDefs, line: &[u8], sheet: &[u8], lookup: bool) -> asm::InstructionMatches {
+/// `match_instr` on a line and its extent sheet, by full scan or by prefix lookup. The line begins at `base` of its file:
+/// the Rust takes its walker's `span_offset` from the span that it is handed with the line.
+pub fn run_match(
+    defs: &asm::ItemDefs,
+    line: &[u8],
+    sheet: &[u8],
+    base: usize,
+    lookup: bool,
+) -> asm::InstructionMatches {
     let src = std::str::from_utf8(line).unwrap();
 
     expr::with_sheet(line.len(), sheet, || {
         asm::matcher::match_instr(
             &options(lookup),
             defs,
-            diagn::Span::new(FILE, OFFSET, OFFSET + line.len()),
+            diagn::Span::new(FILE, base, base + line.len()),
             src,
         )
     })
@@ -122,15 +128,16 @@ fn unpack_rule(parts: &[u16]) -> asm::Rule {
     }
 }
 
-/// Number of matches, greatest count, then each tree; nothing if there is no match.
-pub fn pack_answer(matches: &asm::InstructionMatches) -> Vec<u16> {
+/// Number of matches, greatest count, then each tree; nothing if there is no match. The words are as wide as the Rust's own
+/// numbers, so that a place past 2^32 shows.
+pub fn pack_answer(matches: &asm::InstructionMatches) -> Vec<u64> {
     let mut words = Vec::new();
 
     if let Some(first) = matches.first() {
         // `match_instr` has kept the matches of the greatest count only.
         assert!(matches.iter().all(|m| m.exact_part_count == first.exact_part_count));
-        words.push(matches.len() as u16);
-        words.push(first.exact_part_count as u16);
+        words.push(matches.len() as u64);
+        words.push(first.exact_part_count as u64);
     }
 
     for mtch in matches {
@@ -140,16 +147,16 @@ pub fn pack_answer(matches: &asm::InstructionMatches) -> Vec<u16> {
     words
 }
 
-fn pack_tree(mtch: &asm::InstructionMatch, words: &mut Vec<u16>) {
-    words.push(mtch.ruledef_ref.get_raw() as u16);
-    words.push(mtch.rule_ref.get_raw() as u16);
-    words.push(mtch.args.len() as u16);
+fn pack_tree(mtch: &asm::InstructionMatch, words: &mut Vec<u64>) {
+    words.push(mtch.ruledef_ref.get_raw() as u64);
+    words.push(mtch.rule_ref.get_raw() as u64);
+    words.push(mtch.args.len() as u64);
 
     for arg in &mtch.args {
-        assert!(arg.span.file_handle == FILE && arg.excerpt.len() == arg.span.length());
+        assert!(arg.span.file_handle == FILE);
 
         let (start, end) = arg.span.location().unwrap();
-        let span = [(start - OFFSET) as u16, (end - OFFSET) as u16];
+        let span = [start as u64, end as u64];
 
         match &arg.kind {
             asm::InstructionArgumentKind::Expr(_) => {
@@ -257,7 +264,7 @@ impl Outcomes {
         let chosen = asm::resolver::instruction::resolve_encoding(
             &mut report,
             &opts,
-            diagn::Span::new(FILE, OFFSET, OFFSET),
+            diagn::Span::new(FILE, 0, 0),
             &mut util::NoFiles,
             &mut self.matches,
             &self.decls,

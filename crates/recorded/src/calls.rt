@@ -5,6 +5,7 @@ use crate::input::read_list;
 use crate::input::read_sheet;
 use crate::output::tell;
 use crate::output::tell_selection;
+use sample::at_most;
 use sample::copy_name;
 use sample::length;
 use sample::number;
@@ -12,6 +13,7 @@ use sample::read_words;
 use sample::say;
 use sample::words_of;
 use tholdrimash::TholdrimashAnswer;
+ghost use Rattle.io.specs.Counts.{Counts};
 
 // What the arrays have room for. A table, a line, a sheet and a list may be longer than the longest good ones.
 const TABLE: usize = 9_764;
@@ -26,8 +28,11 @@ const LIST: usize = 4_097;
 
 const CHOICE: usize = 4_096;
 
-// What stands at each place of a buffer before a call. No call writes it.
-const UNTOUCHED: u16 = 65_535;
+// What stands at each place of an answer's buffer before a call, and of a choice's. No call of the sample writes it: a word
+// of an answer could be any number of 32 bits, but the sample has no base near this one.
+const UNTOUCHED: u32 = 4_000_000_000;
+
+const NO_INDEX: u16 = 65_535;
 
 // An entry of a sheet that has no end.
 const NO_END: u8 = 255;
@@ -36,6 +41,7 @@ const NO_END: u8 = 255;
 struct Asked {
     lookup: bool,
     budget: u32,
+    base: u32,
     room: usize,
 }
 
@@ -49,22 +55,36 @@ fn answer(
     table: &[u16],
     line: &[u8],
     sheet: &[u8],
-    buffer: &mut [u16],
+    buffer: &mut [u32],
 ) -> TholdrimashAnswer {
     if asked.lookup {
-        return tholdrimash::tholdrimash_lookup(table, line, sheet, asked.budget, buffer);
+        return tholdrimash::tholdrimash_lookup(
+            table,
+            line,
+            sheet,
+            asked.budget,
+            asked.base,
+            buffer,
+        );
     }
-    tholdrimash::tholdrimash_match(table, line, sheet, asked.budget, buffer)
+    tholdrimash::tholdrimash_match(table, line, sheet, asked.budget, asked.base, buffer)
 }
 
-fn matching(asked: Asked, table: &[u16], line: &[u8], sheet: &[u8], buffer: &mut [u16]) {
+fn matching(asked: Asked, table: &[u16], line: &[u8], sheet: &[u8], buffer: &mut [u32]) {
     let answer = answer(asked, table, line, sheet, buffer);
     tell(answer, buffer);
 }
 
+// So many words of an answer's buffer, or all that it has.
+fn room_of(buffer: &[u32], wanted: usize) -> usize
+    ensures { λ r. ⌜ Counts r (now (buffer .entry)) ⌝ }
+{
+    at_most(wanted, buffer.len())
+}
+
 fn with_sheet(asked: Asked, table: &[u16], line: &[u8], sheet: &[u8]) -> bool {
     let mut buffer = [UNTOUCHED; ANSWER];
-    let n = words_of(&buffer, asked.room);
+    let n = room_of(&buffer, asked.room);
     if n < asked.room {
         return too_long();
     }
@@ -105,10 +125,12 @@ fn with_asked(asked: Asked) -> bool {
 // A full scan or a lookup.
 fn match_call(lookup: bool) -> bool {
     let budget = number();
+    let base = number();
     let room = length();
     with_asked(Asked {
         lookup,
         budget,
+        base,
         room,
     })
 }
@@ -119,7 +141,7 @@ fn select(last: u32, list: &mut [u32], buffer: &mut [u16]) {
 }
 
 fn with_list(last: u32, wanted: usize, list: &mut [u32]) -> bool {
-    let mut buffer = [UNTOUCHED; CHOICE];
+    let mut buffer = [NO_INDEX; CHOICE];
     let n = words_of(&buffer, wanted);
     if n < wanted {
         return too_long();

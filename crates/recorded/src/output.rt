@@ -8,7 +8,7 @@ fn put_word(word: u16) {
     put(word as u32);
 }
 
-// Writes the words of a buffer, all of them: those of the answer and those that it leaves.
+// Writes the words of a choice's buffer, all of them: the indices chosen and the words that they leave.
 fn put_buffer(buffer: &[u16]) {
     let mut i: usize = 0;
     while i < buffer.len() {
@@ -17,6 +17,7 @@ fn put_buffer(buffer: &[u16]) {
     }
 }
 
+// The same of outcome words and of an answer's buffer.
 fn put_list(list: &[u32]) {
     let mut i: usize = 0;
     while i < list.len() {
@@ -26,13 +27,13 @@ fn put_list(list: &[u32]) {
 }
 
 // Number, visits, words and place, then the buffer.
-pub fn tell(answer: TholdrimashAnswer, buffer: &[u16]) {
+pub fn tell(answer: TholdrimashAnswer, buffer: &[u32]) {
     put(answer.number);
     put(answer.visits);
     put(answer.words);
     put(answer.place);
     say(b" |");
-    put_buffer(buffer);
+    put_list(buffer);
     say(b"\n");
 }
 
