@@ -3,7 +3,7 @@
 use crate::model::Answer;
 use crate::readings::{Kind, Readings, Tree};
 
-/// Whether the scan's answer says what lookup's must be. Where it ends in 2 to 5 there was no walk.
+/// Whether the scan's answer says what lookup's must be. Where it ends in 2 to 5 or 19 there was no walk.
 pub fn decides(scan: &Answer) -> bool {
     matches!(scan.number, 0 | 1 | 9)
 }
