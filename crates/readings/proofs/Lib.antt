@@ -16,6 +16,7 @@ pub mod Agree
 pub mod Theorems
 pub mod Numbers
 pub mod Shifts
+pub mod Readable
 pub mod Spans
 pub mod Sizes
 pub mod Bounds
