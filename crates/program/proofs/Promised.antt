@@ -8,7 +8,8 @@ use Rattle.defs.specs.Table.{tableFits}
 use Rattle.lines.specs.Lines.{linesOf, programFits}
 use Rattle.runs.specs.Program.{ProgramTold, scanProgram, lookupProgram}
 use Rattle.runs.specs.Demand.{ReadProgram, AllWithin}
-use Rattle.runs.proofs.Agreed.{scan-program-reads, lookup-program-reads, programs-agree}
+use Rattle.runs.proofs.Demands.{scan-program-reads, lookup-program-reads}
+use Rattle.runs.proofs.Lookups.{programs-agree}
 
 module _ (t text ends sheets budgets bases rows answers : List ℕ) (r : ProgramTold) where
   pub scan-reads : r ≡ scanProgram t text ends sheets budgets bases rows answers → tableFits t ≡ true

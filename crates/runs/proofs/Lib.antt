@@ -1,6 +1,8 @@
 pub mod Wholes
 pub mod Shapes
 pub mod Joined
-pub mod Agreed
+pub mod Demands
+pub mod Rows
+pub mod Lookups
 pub mod Programs
 pub mod Rebased

@@ -18,7 +18,7 @@ use Rattle.lines.specs.Lines.{Line, sheetSize, linesFrom, linesOf, endsFit, she
 use Rattle.runs.specs.Program.{taken, runLines, lineCall, ProgramTold, ranWhole, programWith}
 use Rattle.runs.specs.Joined.{movedRows, NoneTooLong, lastEnd}
 use Rattle.lines.proofs.Measured.{fitting}
-use Rattle.runs.proofs.Shapes.{call-shape}
+use Rattle.runs.proofs.Shapes.{line-shape}
 use Rattle.runs.proofs.Joined.{lines-rest, lines-roomy}
 use Rattle.runs.proofs.Wholes.{ran-whole}
 
@@ -104,7 +104,7 @@ module _ (text ends sheets budgets bases : List ℕ) (text′ ends′ sheets′ 
         c
         ∙ ap (λ (ls : List Line). ranWhole (runLines (lineCall order t) ls 0 answers)) (joined-lines rows fit whole)
         ∙ ap ranWhole
-        (lines-roomy (lineCall order t) (λ x. call-shape order t (x .bytes) (x .sheet) (x .budget) (x .base)) (linesOf text ends sheets budgets bases) (linesOf text′ ends′ sheets′ budgets′ bases′) answers own
+        (lines-roomy (lineCall order t) (line-shape order t) (linesOf text ends sheets budgets bases) (linesOf text′ ends′ sheets′ budgets′ bases′) answers own
         (subst (λ (r : ProgramTold). NoneTooLong (r .rows)) b none)
         (subst (λ (n : ℕ). n ≤ length answers) (ap₂ (λ (r s : ProgramTold). r .told .words + s .told .words) a b) room))
         ∙ ap₂ (λ (r s : ProgramTold). ranWhole
@@ -120,7 +120,7 @@ module _ (text ends sheets budgets bases : List ℕ) (text′ ends′ sheets′ 
 pub program-rest : (order : Scene → List (ℕ × ℕ)) (t text ends sheets budgets bases answers : List ℕ)
     → drop (runLines (lineCall order t) (linesOf text ends sheets budgets bases) 0 answers .words) (runLines (lineCall order t) (linesOf text ends sheets budgets bases) 0 answers .answers)
     ≡ drop (runLines (lineCall order t) (linesOf text ends sheets budgets bases) 0 answers .words) answers
-program-rest order t text ends sheets budgets bases answers = lines-rest (lineCall order t) (λ x. call-shape order t (x .bytes) (x .sheet) (x .budget) (x .base)) (linesOf text ends sheets budgets bases) answers
+program-rest order t text ends sheets budgets bases answers = lines-rest (lineCall order t) (line-shape order t) (linesOf text ends sheets budgets bases) answers
 
 -- ---- one line
 

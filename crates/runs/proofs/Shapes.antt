@@ -20,7 +20,8 @@ use Rattle.readings.specs.Answer.{answerWords}
 use Rattle.readings.specs.Call.{tree, written, callWith}
 use Rattle.readings.proofs.Calls as Calls
 use Rattle.readings.proofs.Numbers.{Case, table, bytes, extents, visits, origin, walk, none-found, too-long, found, exactly, stop-numbers}
-use Rattle.runs.specs.Program.{taken}
+use Rattle.lines.specs.Lines.{Line}
+use Rattle.runs.specs.Program.{taken, lineCall}
 use Rattle.runs.specs.Demand.{Kept}
 
 abbrev refusal : ℕ → ℕ → ℕ → List ℕ → Told
@@ -60,6 +61,10 @@ module _ (order : Scene → List (ℕ × ℕ)) (t line sheet : List ℕ) (budget
 
   pub call-shape : Shape call
   call-shape = of-case (exactly order t line sheet budget base [] (call [] .number) .0 refl)
+
+-- of a program's line
+pub line-shape : (order : Scene → List (ℕ × ℕ)) (t : List ℕ) (x : Line) → Shape (lineCall order t x)
+line-shape order t x = call-shape order t (x .bytes) (x .sheet) (x .budget) (x .base)
 
 -- ---- what follows of the buffer
 

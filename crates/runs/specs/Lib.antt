@@ -1,4 +1,3 @@
 pub mod Program
 pub mod Demand
 pub mod Joined
-pub mod Based
