@@ -28,7 +28,7 @@ module _ (store : List ℕ) (used : ℕ) (stored : Stored store used) where
     pub entry-here : getD es i (argued none) ≡ entryOf es x
     entry-here = entry-read store used stored i h is digits
 
-    pub ends-at : {d r k a e : ℕ} → x ≡ Completed d r k a e → getD es i (argued none) ≡ completed d (treeAt es i) e
+    pub ends-at : {d r k a e c : ℕ} → x ≡ Completed d r k a e c → getD es i (argued none) ≡ completed d (treeAt es i) e
     unfolding treeAt
     ends-at {d} {e = e} y =
         let q = entry-here ∙ ap (entryOf es) y in
@@ -41,12 +41,12 @@ module _ (store : List ℕ) (used : ℕ) (stored : Stored store used) where
       nothing-here ne ms = ap (λ (y : Entry). gathered d (y ∷ ms)) entry-here ∙ go x refl
         where
           go : (y : Record) → x ≡ y → gathered d (entryOf es y ∷ ms) ≡ gathered d ms
-          go (Kept a p) e = refl
-          go (Completed n r k a c) e = rw (gathered, ne-eqb n d (λ q. ne (ap depthIn e ∙ q)))
+          go (Kept a p m) e = refl
+          go (Completed n r k a c m) e = rw (gathered, ne-eqb n d (λ q. ne (ap depthIn e ∙ q)))
 
       pub something-here : depthIn x ≡ d → (ms : List Entry) → (e : ℕ) × (gathered d (getD es i (argued none) ∷ ms) ≡ (treeAt es i, e) ∷ gathered d ms)
       something-here q ms = go x refl
         where
           go : (y : Record) → x ≡ y → (e : ℕ) × (gathered d (getD es i (argued none) ∷ ms) ≡ (treeAt es i, e) ∷ gathered d ms)
-          go (Kept a p) e = let z : 32 ≡ d = sym (ap depthIn e) ∙ q in absurd (omega arith)
-          go (Completed n r k a c) e = (c, ap (λ (y : Entry). gathered d (y ∷ ms)) (ends-at e) ∙ counted d n (treeAt es i) c ms (sym (ap depthIn e) ∙ q))
+          go (Kept a p m) e = let z : 32 ≡ d = sym (ap depthIn e) ∙ q in absurd (omega arith)
+          go (Completed n r k a c m) e = (c, ap (λ (y : Entry). gathered d (y ∷ ms)) (ends-at e) ∙ counted d n (treeAt es i) c ms (sym (ap depthIn e) ∙ q))

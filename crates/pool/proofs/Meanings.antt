@@ -69,10 +69,10 @@ linked-stays es more c x y Expr h = refl
 linked-stays es more c x y (Nested m) h = rw (tree-stays es more m h)
 
 pub entry-stays : (es more : List Entry) (x : Record) → Links (length es) x → entryOf (es ++ more) x ≡ entryOf es x
-entry-stays es more (Kept a p) (h, k) =
+entry-stays es more (Kept a p n) (h, k) =
     ap (λ (c : Chain). argued (linked (es ++ more) c (a .start) (a .end) (a .kind))) (chain-stays es more p h)
     ∙ ap argued (linked-stays es more (chainAt es p) (a .start) (a .end) (a .kind) k)
-entry-stays es more (Completed d r k a e) h = rw (chain-stays es more a h)
+entry-stays es more (Completed d r k a e n) h = rw (chain-stays es more a h)
 
 -- ---- links to earlier records
 
@@ -127,7 +127,7 @@ module _ (store : List ℕ) (used : ℕ) (stored : Stored store used) (i : ℕ) 
   pub links-read : Links i x
   links-read = subst (Links i) known (stored .earlier .links i below)
 
-  pub head-kept : {a : Argument} {p : ℕ} → x ≡ Kept a p → HeadAt store used i (record { set = 0; rule = 0; args = 0 })
+  pub head-kept : {a : Argument} {p c : ℕ} → x ≡ Kept a p c → HeadAt store used i (record { set = 0; rule = 0; args = 0 })
   unfolding treeAt chainAt
   head-kept y = record {
     is = ap headOf (sym y ∙ is);
@@ -139,10 +139,10 @@ module _ (store : List ℕ) (used : ℕ) (stored : Stored store used) (i : ℕ) 
     };
   }
 
-  pub head-completed : {d r k a e : ℕ} → x ≡ Completed d r k a e → HeadAt store used i (record { set = r; rule = k; args = a })
+  pub head-completed : {d r k a e c : ℕ} → x ≡ Completed d r k a e c → HeadAt store used i (record { set = r; rule = k; args = a })
   unfolding treeAt
-  head-completed {d} {r} {k} {a} {e} y =
-      let f : MatchFits d r k a e = subst Digits y digits in
+  head-completed {d} {r} {k} {a} {e} {c} y =
+      let f : MatchFits d r k a e c = subst Digits y digits in
       record {
         is = ap headOf (sym y ∙ is);
         heads = record {
@@ -154,10 +154,10 @@ module _ (store : List ℕ) (used : ℕ) (stored : Stored store used) (i : ℕ) 
       }
 
   module _ (n : ℕ) (next : n ≡ suc i) where
-    pub last-kept : {a : Argument} {p : ℕ} → x ≡ Kept a p → LastAt store used n (After a p)
+    pub last-kept : {a : Argument} {p c : ℕ} → x ≡ Kept a p c → LastAt store used n (After a p)
     unfolding chainAt lastIn
-    last-kept {a} {p} y =
-        let f : ArgumentDigits a p = subst Digits y digits in
+    last-kept {a} {p} {c} y =
+        let f : ArgumentDigits a p c = subst Digits y digits in
         let (l, k) = subst (Links i) y links-read in
         record {
           is = ap lastOf (sym y ∙ is) ∙ sym (ap (lastIn store) next);
@@ -176,7 +176,7 @@ module _ (store : List ℕ) (used : ℕ) (stored : Stored store used) (i : ℕ) 
         inner-later Expr l = tt
         inner-later (Nested m) l = omega (arith, next)
 
-    pub last-completed : {d r k a e : ℕ} → x ≡ Completed d r k a e → LastAt store used n First
+    pub last-completed : {d r k a e c : ℕ} → x ≡ Completed d r k a e c → LastAt store used n First
     unfolding chainAt lastIn
     last-completed y = record {
       is = ap lastOf (sym y ∙ is) ∙ sym (ap (lastIn store) next);

@@ -42,38 +42,40 @@ unfolding decode
 is-match w t = rw (decode, ne-eqb _ _ t)
 
 -- what reading a word by its digits finds
-pub reads-argument : (w : ℕ) (k : ArgumentKind) → w % 2 ≡ 0 → k ≡ kindOf (w / 2 / 8192 / 128 / 128)
-    → Kept (record { start = w / 2 / 8192 % 128; end = w / 2 / 8192 / 128 % 128; kind = k }) (w / 2 % 8192) ≡ decode w
+pub reads-argument : (w : ℕ) (k : ArgumentKind) → w % 2 ≡ 0 → k ≡ kindOf (w / 2 / 8192 / 128 / 128 / 128)
+    → Kept (record { start = w / 2 / 8192 % 128; end = w / 2 / 8192 / 128 % 128; kind = k }) (w / 2 % 8192) (w / 2 / 8192 / 128 / 128 % 128) ≡ decode w
 unfolding argumentOf
 reads-argument w k t e =
-    ap (λ (j : ArgumentKind). Kept (record { start = w / 2 / 8192 % 128; end = w / 2 / 8192 / 128 % 128; kind = j }) (w / 2 % 8192)) e ∙ is-argument w t
+    ap (λ (j : ArgumentKind). Kept (record { start = w / 2 / 8192 % 128; end = w / 2 / 8192 / 128 % 128; kind = j }) (w / 2 % 8192) (w / 2 / 8192 / 128 / 128 % 128)) e ∙ is-argument w t
 
 pub reads-match : (w : ℕ) → (w % 2 ≡ 0 → ⊥)
-    → Completed (w / 2 % 32) (w / 2 / 32 % 32) (w / 2 / 32 / 32 % 512) (w / 2 / 32 / 32 / 512 % 8192) (w / 2 / 32 / 32 / 512 / 8192 % 128) ≡ decode w
+    → Completed (w / 2 % 32) (w / 2 / 32 % 32) (w / 2 / 32 / 32 % 512) (w / 2 / 32 / 32 / 512 % 8192) (w / 2 / 32 / 32 / 512 / 8192 / 128 % 128) (w / 2 / 32 / 32 / 512 / 8192 % 128) ≡ decode w
 unfolding matchOf
 reads-match w t = is-match w t
 
-digits-argument : (x y z prev k : ℕ) (a : Argument) → x % 8192 ≡ prev → x / 8192 ≡ y → y % 128 ≡ a .start → y / 128 ≡ z → z % 128 ≡ a .end → z / 128 ≡ k
-    → k ≡ codeOf (a .kind) → argumentOf x ≡ Kept a prev
+digits-argument : (x y z v prev n k : ℕ) (a : Argument) → x % 8192 ≡ prev → x / 8192 ≡ y → y % 128 ≡ a .start → y / 128 ≡ z → z % 128 ≡ a .end → z / 128 ≡ v → v % 128 ≡ n → v / 128 ≡ k
+    → k ≡ codeOf (a .kind) → argumentOf x ≡ Kept a prev n
 unfolding argumentOf
-digits-argument x y z prev k a m2 d2 m3 d3 m4 d4 e = simp (argumentOf, m2, d2, m3, d3, m4, d4, e, kind-code)
+digits-argument x y z v prev n k a m2 d2 m3 d3 m4 d4 m5 d5 e = simp (argumentOf, m2, d2, m3, d3, m4, d4, m5, d5, e, kind-code)
 
-decode-argument : (a : Argument) (prev k : ℕ) → k ≡ codeOf (a .kind) → ArgumentFits a prev
-    → decode (2 * (prev + 8192 * (a .start + 128 * (a .end + 128 * k)))) ≡ Kept a prev
-decode-argument a prev k e f =
-    let z = a .end + 128 * k in
+decode-argument : (a : Argument) (prev n k : ℕ) → k ≡ codeOf (a .kind) → ArgumentFits a prev n
+    → decode (2 * (prev + 8192 * (a .start + 128 * (a .end + 128 * (n + 128 * k))))) ≡ Kept a prev n
+decode-argument a prev n k e f =
+    let v = n + 128 * k in
+    let z = a .end + 128 * v in
     let y = a .start + 128 * z in
     let x = prev + 8192 * y in
     let d : 2 * x / 2 ≡ x = omega arith in
     sym (is-argument (2 * x) (omega arith)) ∙ ap argumentOf d
-    ∙ digits-argument x y z prev k a (omega (arith, f .before)) (omega (arith, f .before)) (omega (arith, f .start)) (omega (arith, f .start))
-    (omega (arith, f .end)) (omega (arith, f .end)) e
+    ∙ digits-argument x y z v prev n k a (omega (arith, f .before)) (omega (arith, f .before)) (omega (arith, f .start)) (omega (arith, f .start))
+    (omega (arith, f .end)) (omega (arith, f .end)) (omega (arith, f .counts)) (omega (arith, f .counts)) e
 
-decode-match : (depth group rule args end : ℕ) → MatchFits depth group rule args end
-    → decode (1 + 2 * (depth + 32 * (group + 32 * (rule + 512 * (args + 8192 * end))))) ≡ Completed depth group rule args end
+decode-match : (depth group rule args end n : ℕ) → MatchFits depth group rule args end n
+    → decode (1 + 2 * (depth + 32 * (group + 32 * (rule + 512 * (args + 8192 * (n + 128 * end)))))) ≡ Completed depth group rule args end n
 unfolding matchOf
-decode-match depth group rule args end f =
-    let z = args + 8192 * end in
+decode-match depth group rule args end n f =
+    let u = n + 128 * end in
+    let z = args + 8192 * u in
     let y = rule + 512 * z in
     let v = group + 32 * y in
     let x = depth + 32 * v in
@@ -86,9 +88,11 @@ decode-match depth group rule args end f =
     let m3 : y % 512 ≡ rule = omega (arith, f .rules) in
     let d3 : y / 512 ≡ z = omega (arith, f .rules) in
     let m4 : z % 8192 ≡ args = omega (arith, f .last) in
-    let d4 : z / 8192 ≡ end = omega (arith, f .last) in
+    let d4 : z / 8192 ≡ u = omega (arith, f .last) in
+    let m7 : u % 128 ≡ n = omega (arith, f .counts) in
+    let d7 : u / 128 ≡ end = omega (arith, f .counts) in
     let m6 : end % 128 ≡ end = omega (arith, f .place) in
-    sym (is-match (1 + 2 * x) t) ∙ simp (matchOf, d1, m2, d2, m5, d5, m3, d3, m4, d4, m6)
+    sym (is-match (1 + 2 * x) t) ∙ simp (matchOf, d1, m2, d2, m5, d5, m3, d3, m4, d4, m7, d7, m6)
 
 -- whatever the word, its digits are below their numbers
 pub digits : (w : ℕ) → Digits (decode w)
@@ -96,8 +100,8 @@ unfolding decode argumentOf matchOf
 digits w = go (eqb (w % 2) 0)
   where
     go : (b : Bool) → Digits (select b (argumentOf (w / 2)) (matchOf (w / 2)))
-    go true = record { start = omega arith; end = omega arith; before = omega arith }
-    go false = record { depths = omega arith; sets = omega arith; rules = omega arith; last = omega arith; place = omega arith }
+    go true = record { start = omega arith; end = omega arith; before = omega arith; counts = omega arith }
+    go false = record { depths = omega arith; sets = omega arith; rules = omega arith; last = omega arith; place = omega arith; counts = omega arith }
 
 -- ---- the log
 
@@ -127,8 +131,8 @@ log-none store = refl
 
 -- what fits a word is what it was
 decoded : (x : Record) → Fits x → decode (encode x) ≡ x
-decoded (Kept a p) f = decode-argument a p (codeOf (a .kind)) refl f
-decoded (Completed d r k a e) f = decode-match d r k a e f
+decoded (Kept a p n) f = decode-argument a p n (codeOf (a .kind)) refl f
+decoded (Completed d r k a e n) f = decode-match d r k a e n f
 
 module _ (store : List ℕ) (used : ℕ) (x : Record) where
   pub taken-full : used ≡ 4096 → TakenBy used store store x Full

@@ -1,2 +1,3 @@
 pub mod Log
 pub mod Meaning
+pub mod Counted

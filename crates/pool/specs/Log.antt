@@ -31,13 +31,20 @@ argumentOf w =
     (record {
       start = w / 8192 % 128;
       end = w / 8192 / 128 % 128;
-      kind = kindOf (w / 8192 / 128 / 128);
+      kind = kindOf (w / 8192 / 128 / 128 / 128);
     })
     (w % 8192)
+    (w / 8192 / 128 / 128 % 128)
 
 unfoldable pub matchOf : ℕ → Record
 matchOf w =
-    Completed (w % 32) (w / 32 % 32) (w / 32 / 32 % 512) (w / 32 / 32 / 512 % 8192) (w / 32 / 32 / 512 / 8192 % 128)
+    Completed
+    (w % 32)
+    (w / 32 % 32)
+    (w / 32 / 32 % 512)
+    (w / 32 / 32 / 512 % 8192)
+    (w / 32 / 32 / 512 / 8192 / 128 % 128)
+    (w / 32 / 32 / 512 / 8192 % 128)
 
 unfoldable pub decode : ℕ → Record
 decode w = select (eqb (w % 2) 0) (argumentOf (w / 2)) (matchOf (w / 2))
@@ -47,27 +54,29 @@ unfoldable pub logOf : List ℕ → ℕ → List Record
 logOf store used = map decode (take used store)
 
 -- what fits a word
-pub record ArgumentFits (a : Argument) (prev : ℕ) : Type 0 where
+pub record ArgumentFits (a : Argument) (prev count : ℕ) : Type 0 where
   pub start : a .start < 128
   pub end : a .end < 128
   pub before : prev < 8192
   pub inner : codeOf (a .kind) < 8192
+  pub counts : count < 128
 
-pub record MatchFits (depth set rule args end : ℕ) : Type 0 where
+pub record MatchFits (depth set rule args end count : ℕ) : Type 0 where
   pub depths : depth < 32
   pub sets : set < 32
   pub rules : rule < 512
   pub last : args < 8192
   pub place : end < 128
+  pub counts : count < 128
 
 abbrev pub Fits : Record → Type 0
-Fits (Kept a p) = ArgumentFits a p
-Fits (Completed d r k a e) = MatchFits d r k a e
+Fits (Kept a p n) = ArgumentFits a p n
+Fits (Completed d r k a e n) = MatchFits d r k a e n
 
 -- a record as a word
 abbrev pub encode : Record → ℕ
-encode (Kept a p) = 2 * (p + 8192 * (a .start + 128 * (a .end + 128 * codeOf (a .kind))))
-encode (Completed d r k a e) = 1 + 2 * (d + 32 * (r + 32 * (k + 512 * (a + 8192 * e))))
+encode (Kept a p n) = 2 * (p + 8192 * (a .start + 128 * (a .end + 128 * (n + 128 * codeOf (a .kind)))))
+encode (Completed d r k a e n) = 1 + 2 * (d + 32 * (r + 32 * (k + 512 * (a + 8192 * (n + 128 * e)))))
 
 -- the next word of the store, unless there is no room
 unfoldable pub taken : ℕ → List ℕ → Record → List ℕ × Room
@@ -90,19 +99,25 @@ pub record TakenBy (used : ℕ) (store store′ : List ℕ) (x : Record) (r : Ro
 
 -- what stands past a log's end
 abbrev pub nothing : Record
-nothing = Kept (record { start = 0; end = 0; kind = Expr }) 0
+nothing = Kept (record { start = 0; end = 0; kind = Expr }) 0 0
 
 -- what every word's digits are below
-pub record ArgumentDigits (a : Argument) (prev : ℕ) : Type 0 where
+pub record ArgumentDigits (a : Argument) (prev count : ℕ) : Type 0 where
   pub start : a .start < 128
   pub end : a .end < 128
   pub before : prev < 8192
+  pub counts : count < 128
 
 abbrev pub Digits : Record → Type 0
-Digits (Kept a p) = ArgumentDigits a p
-Digits (Completed d r k a e) = MatchFits d r k a e
+Digits (Kept a p n) = ArgumentDigits a p n
+Digits (Completed d r k a e n) = MatchFits d r k a e n
 
 -- a match's depth; 32 for an argument
 abbrev pub depthIn : Record → ℕ
-depthIn (Kept a p) = 32
-depthIn (Completed d r k a e) = d
+depthIn (Kept a p n) = 32
+depthIn (Completed d r k a e n) = d
+
+-- the count that a record has
+abbrev pub countIn : Record → ℕ
+countIn (Kept a p n) = n
+countIn (Completed d r k a e n) = n

@@ -60,8 +60,8 @@ linked es c x y (Nested m) = then-nest c x y (treeAt es m)
 
 -- what a record means after these
 abbrev pub entryOf : List Entry → Record → Entry
-entryOf es (Kept a p) = argued (linked es (chainAt es p) (a .start) (a .end) (a .kind))
-entryOf es (Completed d r k a e) = completed d (node r k (unwind (chainAt es a) end)) e
+entryOf es (Kept a p n) = argued (linked es (chainAt es p) (a .start) (a .end) (a .kind))
+entryOf es (Completed d r k a e n) = completed d (node r k (unwind (chainAt es a) end)) e
 
 -- what records mean that come after these
 unfoldable pub meaning : List Entry → List Record → List Entry
@@ -86,8 +86,8 @@ InnerEarlier n Expr = Unit {0}
 InnerEarlier n (Nested m) = m < n
 
 abbrev pub Links : ℕ → Record → Type 0
-Links n (Kept a p) = (p ≤ n) × InnerEarlier n (a .kind)
-Links n (Completed d r k a e) = a ≤ n
+Links n (Kept a p x) = (p ≤ n) × InnerEarlier n (a .kind)
+Links n (Completed d r k a e x) = a ≤ n
 
 -- so in a whole log
 pub record Earlier (log : List Record) : Type 0 where
@@ -113,8 +113,8 @@ pub record Heads (es : List Entry) (m : ℕ) (h : Head) : Type 0 where
 
 -- what the record says; an argument reads as rule 0 of ruleset 0
 abbrev pub headOf : Record → Head
-headOf (Kept a p) = record { set = 0; rule = 0; args = 0 }
-headOf (Completed d r k a e) = record { set = r; rule = k; args = a }
+headOf (Kept a p n) = record { set = 0; rule = 0; args = 0 }
+headOf (Completed d r k a e n) = record { set = r; rule = k; args = a }
 
 pub record HeadAt (store : List ℕ) (used m : ℕ) (h : Head) : Type 0 where
   pub is : h ≡ headOf (decode (getD store m 0))
@@ -141,8 +141,8 @@ pub record Lasts (es : List Entry) (n : ℕ) (l : Last) : Type 0 where
 
 -- what the records say; a match reads as no argument
 abbrev pub lastOf : Record → Last
-lastOf (Kept a p) = After a p
-lastOf (Completed d r k a e) = First
+lastOf (Kept a p n) = After a p
+lastOf (Completed d r k a e n) = First
 
 unfoldable pub lastIn : List ℕ → ℕ → Last
 lastIn store zero = First

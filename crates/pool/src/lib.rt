@@ -5,7 +5,7 @@ ghost use mathlib.Core.Path.{_≡_};
 ghost use Prim.Native.Nat.{_+_, _<_, _≤_};
 ghost use lib.ListN.{length, getD};
 ghost use Rattle.readings.specs.Plan.{room};
-ghost use Rattle.pool.specs.Log.{codeOf, kindOf, decode, ArgumentFits, MatchFits, TakenBy, Digits, depthIn};
+ghost use Rattle.pool.specs.Log.{codeOf, kindOf, decode, ArgumentFits, MatchFits, TakenBy, Digits, depthIn, countIn};
 ghost use Rattle.pool.specs.Meaning.{Stored, HeadAt, LastAt};
 
 // What an argument is: an expression, or nested with its match's record number.
@@ -21,19 +21,22 @@ pub struct Argument {
 }
 
 pub enum Record {
-    // An argument kept. `prev` is the argument before it in its match: its record number and 1, or 0 if there is none.
+    // An argument kept. `prev` is the argument before it in its match: its record number and 1, or 0 if there is none;
+    // `count` the exact count of its match so far.
     Kept {
         argument: Argument,
         prev: usize,
+        count: usize,
     },
     // A match completed, at its depth: its ruleset, its rule's number there, its last argument as in `prev`, the cursor
-    // where it ended.
+    // where it ended, its exact count.
     Completed {
         depth: usize,
         set: usize,
         rule: usize,
         args: usize,
         end: usize,
+        count: usize,
     },
 }
 
@@ -61,10 +64,12 @@ pub enum Last {
     After(Argument, usize),
 }
 
-// A word's digits: places of a line and depths, rulesets, rules, record numbers. The lowest is the kind of record.
+// A word's digits: places of a line, exact counts, depths, rulesets, rules, record numbers. The lowest is the kind of record.
 const KINDS: usize = 2;
 
 const PLACES: usize = 128;
+
+const COUNTS: usize = 128;
 
 const DEPTHS: usize = 32;
 
@@ -98,11 +103,17 @@ impl Pool {
     }
 
     // A record for an argument that is kept.
-    pub fn keep(self, store: &mut [usize], argument: Argument, prev: usize) -> Room
+    pub fn keep(
+        self,
+        store: &mut [usize],
+        argument: Argument,
+        prev: usize,
+        count: usize,
+    ) -> Room
         requires { ⌜ length (now store) ≡ room ⌝ }
         requires { ⌜ self .used ≤ room ⌝ }
-        requires { ⌜ ArgumentFits argument prev ⌝ }
-        ensures answers { λ r. ⌜ TakenBy (self .used) (now (store .entry)) (now (store .exit)) (Record.Kept argument prev) r ⌝ }
+        requires { ⌜ ArgumentFits argument prev count ⌝ }
+        ensures answers { λ r. ⌜ TakenBy (self .used) (now (store .entry)) (now (store .exit)) (Record.Kept argument prev count) r ⌝ }
     {
         let used = self.used;
         if used == Pool::ROOM {
@@ -111,7 +122,10 @@ impl Pool {
         let kind = argument.kind;
         let code = code_of(kind);
         store[used] = KINDS
-            * (prev + NUMBERS * (argument.start + PLACES * (argument.end + PLACES * code)));
+            * (prev
+                + NUMBERS
+                    * (argument.start
+                        + PLACES * (argument.end + PLACES * (count + COUNTS * code))));
         Room::Taken(self.more())
     }
 
@@ -124,18 +138,24 @@ impl Pool {
         rule: usize,
         args: usize,
         end: usize,
+        count: usize,
     ) -> Room
         requires { ⌜ length (now store) ≡ room ⌝ }
         requires { ⌜ self .used ≤ room ⌝ }
-        requires { ⌜ MatchFits depth set rule args end ⌝ }
-        ensures answers { λ r. ⌜ TakenBy (self .used) (now (store .entry)) (now (store .exit)) (Record.Completed depth set rule args end) r ⌝ }
+        requires { ⌜ MatchFits depth set rule args end count ⌝ }
+        ensures answers { λ r. ⌜ TakenBy (self .used) (now (store .entry)) (now (store .exit)) (Record.Completed depth set rule args end count) r ⌝ }
     {
         let used = self.used;
         if used == Pool::ROOM {
             return Room::Full;
         }
         store[used] = 1
-            + KINDS * (depth + DEPTHS * (set + RULESETS * (rule + RULES * (args + NUMBERS * end))));
+            + KINDS
+                * (depth
+                    + DEPTHS
+                        * (set
+                            + RULESETS
+                                * (rule + RULES * (args + NUMBERS * (count + COUNTS * end)))));
         Room::Taken(self.more())
     }
 }
@@ -171,7 +191,8 @@ pub fn record_at(store: &[usize], i: usize) -> Record
     if word % KINDS == 0 {
         let x = w / NUMBERS;
         let y = x / PLACES;
-        let kind = kind_of(y / PLACES);
+        let z = y / PLACES;
+        let kind = kind_of(z / COUNTS);
         let argument = Argument {
             start: x % PLACES,
             end: y % PLACES,
@@ -180,17 +201,20 @@ pub fn record_at(store: &[usize], i: usize) -> Record
         Record::Kept {
             argument,
             prev: w % NUMBERS,
+            count: z % COUNTS,
         }
     } else {
         let x = w / DEPTHS;
         let y = x / RULESETS;
         let z = y / RULES;
+        let v = z / NUMBERS;
         Record::Completed {
             depth: w % DEPTHS,
             set: x % RULESETS,
             rule: y % RULES,
             args: z % NUMBERS,
-            end: z / NUMBERS % PLACES,
+            end: v / COUNTS % PLACES,
+            count: v % COUNTS,
         }
     }
 }
@@ -208,6 +232,7 @@ pub fn depth_at(store: &[usize], m: usize) -> usize
         Record::Kept {
             argument: _,
             prev: _,
+            count: _,
         } => NO_DEPTH,
         Record::Completed {
             depth,
@@ -215,7 +240,31 @@ pub fn depth_at(store: &[usize], m: usize) -> usize
             rule: _,
             args: _,
             end: _,
+            count: _,
         } => depth,
+    }
+}
+
+// The count that a record has: of its match so far, or of the match completed.
+pub fn count_at(store: &[usize], i: usize) -> usize
+    requires { ⌜ i < length (now store) ⌝ }
+    ensures answers { λ r. ⌜ r ≡ countIn (decode (getD (now (store .entry)) i 0)) ⌝ }
+{
+    let record = record_at(store, i);
+    match record {
+        Record::Kept {
+            argument: _,
+            prev: _,
+            count,
+        } => count,
+        Record::Completed {
+            depth: _,
+            set: _,
+            rule: _,
+            args: _,
+            end: _,
+            count,
+        } => count,
     }
 }
 
@@ -230,6 +279,7 @@ pub fn match_at(store: &[usize], used: usize, m: usize) -> Head
         Record::Kept {
             argument: _,
             prev: _,
+            count: _,
         } => Head {
             set: 0,
             rule: 0,
@@ -241,6 +291,7 @@ pub fn match_at(store: &[usize], used: usize, m: usize) -> Head
             rule,
             args,
             end: _,
+            count: _,
         } => Head { set, rule, args },
     }
 }
@@ -256,13 +307,18 @@ pub fn last_argument(store: &[usize], used: usize, args: usize) -> Last
     }
     let record = record_at(store, args - 1);
     match record {
-        Record::Kept { argument, prev } => Last::After(argument, prev),
+        Record::Kept {
+            argument,
+            prev,
+            count: _,
+        } => Last::After(argument, prev),
         Record::Completed {
             depth: _,
             set: _,
             rule: _,
             args: _,
             end: _,
+            count: _,
         } => Last::First,
     }
 }

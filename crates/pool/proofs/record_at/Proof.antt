@@ -21,11 +21,11 @@ kind-of-requires c κs = search needs
 
 -- src/lib.rt:129:1
 returns : tie.Need-returns
-returns c = (reads-argument _ _ (c .before .if1 .taken) (c .kind-of .ensures), record { start = omega arith; end = omega arith; before = omega arith })
+returns c = (reads-argument _ _ (c .before .if1 .taken) (c .kind-of .ensures), record { start = omega arith; end = omega arith; before = omega arith; counts = omega arith })
 
 -- src/lib.rt:129:1
 returns-2 : tie.Need-returns-2
-returns-2 c = (reads-match _ (c .if1 .left), record { depths = omega arith; sets = omega arith; rules = omega arith; last = omega arith; place = omega arith })
+returns-2 c = (reads-match _ (c .if1 .left), record { depths = omega arith; sets = omega arith; rules = omega arith; last = omega arith; place = omega arith; counts = omega arith })
 
 pub record-at-spec : {M : Type 1} → statement M
 record-at-spec =

@@ -55,6 +55,12 @@ add-store-5 c = search needs
 mul-store-6 : tie.Need-mul-store-6
 mul-store-6 c = search needs
 
+add-store-6 : tie.Need-add-store-6
+add-store-6 c = search needs
+
+mul-store-7 : tie.Need-mul-store-7
+mul-store-7 c = search needs
+
 -- src/lib.rt:136:9
 slice-write-store : tie.Need-slice-write-store
 slice-write-store c = search needs
@@ -87,6 +93,8 @@ complete-spec =
     mul-store-5
     add-store-5
     mul-store-6
+    add-store-6
+    mul-store-7
     slice-write-store
     more-requires
     same-length

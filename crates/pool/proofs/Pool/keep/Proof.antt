@@ -49,6 +49,12 @@ mul-store-4 c = search needs
 mul-store-5 : tie.Need-mul-store-5
 mul-store-5 c = search needs
 
+add-store-4 : tie.Need-add-store-4
+add-store-4 c = search needs
+
+mul-store-6 : tie.Need-mul-store-6
+mul-store-6 c = search needs
+
 -- src/lib.rt:112:9
 slice-write-store : tie.Need-slice-write-store
 slice-write-store c = search needs
@@ -65,7 +71,7 @@ same-length c = search needs
 returns-2 : tie.Need-returns-2
 returns-2 c =
     taken-next _ _ _ (c .before .before .before .before .before .before .pre .0) (c .before .before .before .before .before .before .pre .1 .0) (c .before .before .before .before .if1 .left) (c .before .before .before .before .before .before .pre .1 .1) _
-    (ap (λ k. 2 * (c .before .before .before .before .before .before .args .prev + 8192 * (c .before .before .before .before .before .before .args .argument .start + 128 * (c .before .before .before .before .before .before .args .argument .end + 128 * k)))) (c .before .before .before .code-of .ensures)) _ (c .more .ensures)
+    (ap (λ k. 2 * (c .before .before .before .before .before .before .args .prev + 8192 * (c .before .before .before .before .before .before .args .argument .start + 128 * (c .before .before .before .before .before .before .args .argument .end + 128 * (c .before .before .before .before .before .before .args .count + 128 * k))))) (c .before .before .before .code-of .ensures)) _ (c .more .ensures)
 
 pub keep-spec : {M : Type 1} → statement M
 keep-spec =
@@ -80,7 +86,9 @@ keep-spec =
     mul-store-3
     add-store-3
     mul-store-4
+    add-store-4
     mul-store-5
+    mul-store-6
     slice-write-store
     more-requires
     same-length

@@ -1,0 +1,108 @@
+-- The counts of a log that grows: those of the records that were there stay, and one record more is counted if its own is.
+use mathlib.Core.Path.{_≡_, refl, sym, ap, subst, _∙_}
+use mathlib.Core.Logic.{⊎-elim}
+use mathlib.Core.List.{List, [], _∷_, _++_}
+use Prim.Native.Nat.{ℕ, suc, _+_, _≤_, _<_}
+use native.Mathlib.Omega.{arith}
+use native.Mathlib.Nat.{eq-or-lt-of-le, le-of-suc-le-suc}
+use lib.ListN.{length, getD, length-append, List·getD-append}
+use lib.Seq.{getD-at}
+use Rattle.readings.specs.Tree.{node, end}
+use Rattle.readings.specs.Scene.{Scene}
+use Rattle.readings.specs.Answer.{exactCount}
+use Rattle.pool.specs.declared.Argument.{Argument}
+use Rattle.pool.specs.declared.Record.{Record}
+use Rattle.pool.specs.declared.Record.the-variants.{Kept, Completed}
+use Rattle.pool.specs.Log.{decode, logOf, countIn, depthIn, Digits, nothing}
+use Rattle.pool.specs.Meaning.{Chain, none, Entry, argued, unwind, chainIn, chainAt, treeAt, treeIn, linked, entryOf, meaning, meanings, Stored, entries}
+use Rattle.pool.specs.Counted.{soFar, CountedTo, first, after, CountOf, Counted}
+use Rattle.pool.proofs.Words.{log-length, log-at, digits}
+use Rattle.pool.proofs.Meanings.{meanings-more, meaning-length, chain-stays, entry-read}
+
+-- ---- what a number stands for
+
+pub chain-later : (log new : List Record) (n : ℕ) → n ≤ length log → chainAt (meanings (log ++ new)) n ≡ chainAt (meanings log) n
+chain-later log new n h =
+    ap (λ (es : List Entry). chainAt es n) (meanings-more log new) ∙ chain-stays (meanings log) (meaning (meanings log) new) n (omega (arith, meaning-length [] log))
+
+-- the arguments up to the one kept last
+pub chain-kept : (log : List Record) (a : Argument) (p n : ℕ)
+    → chainAt (meanings (log ++ (Kept a p n ∷ []))) (suc (length log)) ≡ linked (meanings log) (chainAt (meanings log) p) (a .start) (a .end) (a .kind)
+unfolding chainAt meaning
+chain-kept log a p n =
+    ap (λ (es : List Entry). chainAt es (suc (length log))) (meanings-more log (Kept a p n ∷ []))
+    ∙ ap chainIn (getD-at (meanings log) (entryOf (meanings log) (Kept a p n)) [] (argued none) (length log) (meaning-length [] log))
+
+module _ (s : Scene) where
+  -- ---- the records that were there
+
+  module _ (log : List Record) where
+    pub counted-within : {r k n : ℕ} → CountedTo s r k log n → n ≤ length log
+    counted-within first = omega arith
+    counted-within (after h e c rest) = omega arith
+
+    module _ (new : List Record) where
+      pub counted-stays : {r k n : ℕ} → CountedTo s r k log n → CountedTo s r k (log ++ new) n
+      counted-stays first = first
+      counted-stays {r} {k} (after {i = i} h e c rest) =
+          after {i = i} (omega (arith, length-append log new)) (List·getD-append log new nothing i h ∙ e)
+          (c ∙ ap (soFar s r k) (sym (chain-later log new (suc i) (omega arith)))) (counted-stays rest)
+
+      count-stays : (i : ℕ) (x : Record) → CountOf s log i x → CountOf s (log ++ new) i x
+      count-stays i (Kept a p n) (r, k, c) = (r, k, counted-stays c)
+      count-stays i (Completed d r k a e n) (q, c) =
+          (q ∙ ap (λ (x : Chain). exactCount s (node r k (unwind x end))) (sym (chain-later log new a (counted-within c))), counted-stays c)
+
+  -- ---- one record more
+
+  pub counted-none : Counted s []
+  counted-none = record { each = λ i h. absurd (omega arith) }
+
+  module _ (log : List Record) (counted : Counted s log) where
+    more : (x : Record) → CountOf s (log ++ (x ∷ [])) (length log) x → Counted s (log ++ (x ∷ []))
+    more x own = record { each = go }
+      where
+        go : (i : ℕ) → i < length (log ++ (x ∷ [])) → CountOf s (log ++ (x ∷ [])) i (getD (log ++ (x ∷ [])) i nothing)
+        go i lt =
+            ⊎-elim
+            (λ e. subst (λ (j : ℕ). CountOf s (log ++ (x ∷ [])) j (getD (log ++ (x ∷ [])) j nothing)) (sym e)
+            (subst (CountOf s (log ++ (x ∷ [])) (length log)) (sym (getD-at log x [] nothing (length log) refl)) own))
+            (λ h. subst (CountOf s (log ++ (x ∷ [])) i) (sym (List·getD-append log (x ∷ []) nothing i h)) (count-stays log (x ∷ []) i (getD log i nothing) (counted .each i h)))
+            (eq-or-lt-of-le (le-of-suc-le-suc (omega (arith, length-append log (x ∷ [])))))
+
+    module _ {r k : ℕ} (a : Argument) {p n : ℕ} (before : CountedTo s r k log p)
+        (is : n ≡ soFar s r k (linked (meanings log) (chainAt (meanings log) p) (a .start) (a .end) (a .kind))) where
+      -- an argument of a rule's match, after those before it
+      pub argument-own : CountedTo s r k (log ++ (Kept a p n ∷ [])) (suc (length log))
+      argument-own =
+          after {i = length log} (omega (arith, length-append log (Kept a p n ∷ []))) (getD-at log (Kept a p n) [] nothing (length log) refl)
+          (is ∙ ap (soFar s r k) (sym (chain-kept log a p n))) (counted-stays log (Kept a p n ∷ []) before)
+
+      pub argument-counted : Counted s (log ++ (Kept a p n ∷ []))
+      argument-counted = more (Kept a p n) (r, k, argument-own)
+
+    pub match-counted : (d e : ℕ) {r k a n : ℕ} → CountedTo s r k log a → n ≡ exactCount s (node r k (unwind (chainAt (meanings log) a) end))
+        → Counted s (log ++ (Completed d r k a e n ∷ []))
+    match-counted d e {r} {k} {a} {n} before is =
+        more (Completed d r k a e n)
+        (is ∙ ap (λ (x : Chain). exactCount s (node r k (unwind x end))) (sym (chain-later log (Completed d r k a e n ∷ []) a (counted-within log before))), counted-stays log (Completed d r k a e n ∷ []) before)
+
+  -- ---- the count of a match, read from its record
+
+  module _ (store : List ℕ) (used : ℕ) (stored : Stored store used) (counted : Counted s (logOf store used)) (m : ℕ) (below : m < used) where
+    pub count-read : {x : Record} → x ≡ decode (getD store m 0) → (depthIn x ≡ 32 → ⊥) → countIn x ≡ exactCount s (treeAt (entries store used) m)
+    unfolding treeAt
+    count-read {x} is match = go x refl
+      where
+        known : getD (logOf store used) m nothing ≡ x
+        known = log-at store used m below ∙ sym is
+
+        own : CountOf s (logOf store used) m x
+        own = subst (CountOf s (logOf store used) m) known (counted .each m (omega (arith, log-length store used (omega (arith, stored .sized, stored .room)))))
+
+        read : getD (entries store used) m (argued none) ≡ entryOf (entries store used) x
+        read = entry-read store used stored m below is (subst Digits (sym is) (digits (getD store m 0)))
+
+        go : (y : Record) → x ≡ y → countIn x ≡ exactCount s (treeIn (getD (entries store used) m (argued none)))
+        go (Kept a p n) e = absurd (match (ap depthIn e))
+        go (Completed d r k a c n) e = ap countIn e ∙ subst (CountOf s (logOf store used) m) e own .0 ∙ ap (λ (z : Entry). exactCount s (treeIn z)) (sym (read ∙ ap (entryOf (entries store used)) e))
