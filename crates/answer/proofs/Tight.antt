@@ -11,5 +11,5 @@ pub measure-answer-tight : (κs a : _) (r s : Measure) (x y : _) → measure-ans
 measure-answer-tight κs a r s x y = one-answer
 
 -- the lent answer as it stands at exit
-pub write-answer-tight : (κs a : _) (r s : _) (x y : _) → write-answer.Post κs a r x → write-answer.Post κs a s y → now (x .1 .1 .1 .1 .1 .1 .0) ≡ now (y .1 .1 .1 .1 .1 .1 .0)
+pub write-answer-tight : (κs a : _) (r s : _) (x y : _) → write-answer.Post κs a r x → write-answer.Post κs a s y → now (x .1 .1 .1 .1 .1 .0) ≡ now (y .1 .1 .1 .1 .1 .0)
 write-answer-tight κs a r s x y = one-answer

@@ -13,11 +13,13 @@ use Rattle.readings.specs.Scene.{sceneOf}
 use Rattle.readings.specs.Call.{tree}
 use Rattle.readings.specs.Answer.{exactCount, treeWords}
 use Rattle.readings.specs.Measure.{Fit}
-use Rattle.pool.specs.Log.{decode, depthIn}
+use Rattle.pool.specs.Log.{decode, depthIn, countIn, logOf}
 use Rattle.pool.specs.Meaning.{none, Entry, argued, treeAt, gathered, Stored, entries}
+use Rattle.pool.specs.Counted.{Counted}
 use Rattle.pool.proofs.Words.{digits}
 use Rattle.pool.proofs.Meanings.{gathered-append}
 use Rattle.pool.proofs.Gathers.{entries-length, nothing-here, something-here}
+use Rattle.pool.proofs.Counts.{count-read}
 use Rattle.trees.specs.Asked.{treeLength, TreeAsked}
 use Rattle.answer.specs.Measured.{treesIn, treesTo, Bounded, FitFrom}
 
@@ -70,10 +72,11 @@ module _ (store : List ℕ) (used : ℕ) where
         pub tree-fit : {base : ℕ} → FitFrom base store used → Fit (treeWords (moved base (treeAt (entries store used) i)))
         tree-fit fit = fit .each _ among
 
-        module _ (t : List ℕ) (bounded : Bounded t store used) where
-          pub count-asked : TreeAsked (exactCount (sceneOf t [] [])) 65535 store used i
-          count-asked = record { stored = stored; below = h; small = bounded .counts _ among }
+        -- the count that its record has is its own
+        pub own-count : (t : List ℕ) → Counted (sceneOf t [] []) (logOf store used) → {n : ℕ} → n ≡ countIn (decode (getD store i 0)) → n ≡ exactCount (sceneOf t [] []) (treeAt (entries store used) i)
+        own-count t counted e = e ∙ count-read (sceneOf t [] []) store used stored counted i h refl (λ q. omega (arith, top))
 
+        module _ (t : List ℕ) (bounded : Bounded t store used) where
           pub few-words : length (treeWords (treeAt (entries store used) i)) ≤ 12288
           few-words = bounded .words _ among
 

@@ -8,9 +8,9 @@ use Rattle.readings.specs.Scene.{sceneOf}
 use Rattle.readings.specs.Call.{tree}
 use Rattle.readings.specs.Answer.{exactCount, greatestCount, best, treeWords, answerWords}
 use Rattle.readings.specs.Measure.{Fit}
-use Rattle.pool.specs.Log.{decode, depthIn}
+use Rattle.pool.specs.Log.{decode, depthIn, logOf}
 use Rattle.pool.specs.Meaning.{gathered, Stored, entries}
-use Rattle.trees.specs.Asked.{Begun}
+use Rattle.pool.specs.Counted.{Counted}
 use Rattle.answer.specs.declared.Measure.{Measure}
 
 -- the matches of a call: the records of depth 0, in order
@@ -39,9 +39,9 @@ measured t ts = record {
 }
 
 -- what one match more asks: a record of depth 0, and the measure of the matches among the records before it
-pub record OneMore (t starts store : List ℕ) (used m : ℕ) (found : Measure) : Type 0 where
+pub record OneMore (t store : List ℕ) (used m : ℕ) (found : Measure) : Type 0 where
   pub stored : Stored store used
-  pub begun : Begun t starts
+  pub counted : Counted (sceneOf t [] []) (logOf store used)
   pub bounded : Bounded t store used
   pub below : m < used
   pub top : depthIn (decode (getD store m 0)) ≡ 0

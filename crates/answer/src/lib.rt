@@ -1,6 +1,7 @@
 // The answer: the matches with the greatest exact count, as words. It carries over the tail of `match_instr` of
 // `src/asm/matcher/mod.rs`, which counts each match and keeps those with the maximum; here the matches are the pool's
-// records of depth 0, and the answer is measured before anything is written.
+// records of depth 0, which have their counts, and the answer is measured before anything is written. Nothing is read of the
+// table: it is lent for the contracts, which say what the counts are of.
 ghost use mathlib.Core.Path.{_≡_};
 ghost use mathlib.Core.List.{[], map};
 ghost use Prim.Native.Nat.{_+_, _≤_};
@@ -8,8 +9,9 @@ ghost use lib.ListN.{length};
 ghost use Rattle.readings.specs.Tree.{moved};
 ghost use Rattle.readings.specs.Answer.{answerWords};
 ghost use Rattle.readings.specs.Scene.{sceneOf};
+ghost use Rattle.pool.specs.Log.{logOf};
 ghost use Rattle.pool.specs.Meaning.{Stored};
-ghost use Rattle.trees.specs.Asked.{Begun};
+ghost use Rattle.pool.specs.Counted.{Counted};
 ghost use Rattle.answer.specs.Measured.{treesIn, treesTo, Bounded, FitFrom, measured, OneMore};
 ghost use Rattle.plain.specs.Buffers.{atStart};
 
@@ -27,9 +29,9 @@ const HEAD: usize = 2;
 const TOP: usize = 0;
 
 // Measures the answer.
-pub fn measure_answer(table: &[u16], starts: &[u16], store: &[usize], used: usize) -> Measure
+pub fn measure_answer(table: &[u16], store: &[usize], used: usize) -> Measure
     requires { ⌜ Stored (now store) used ⌝ }
-    requires { ⌜ Begun (now table) (now starts) ⌝ }
+    requires { ⌜ Counted (sceneOf (now table) [] []) (logOf (now store) used) ⌝ }
     requires { ⌜ Bounded (now table) (now store) used ⌝ }
     ensures answers { λ r. ⌜ r ≡ measured (now (table .entry)) (treesIn (now (store .entry)) used) ⌝ }
 {
@@ -43,7 +45,7 @@ pub fn measure_answer(table: &[u16], starts: &[u16], store: &[usize], used: usiz
         let m = i;
         i += 1;
         if pool::depth_at(store, m) == TOP {
-            found = add_match(table, starts, store, used, m, found);
+            found = add_match(table, store, used, m, found);
         }
     }
     found
@@ -51,18 +53,11 @@ pub fn measure_answer(table: &[u16], starts: &[u16], store: &[usize], used: usiz
 
 // The measure with one match more, after those of earlier records: a greater count starts anew, an equal one adds, a
 // lesser one changes nothing. The first match is kept whatever its count, which is at least 0.
-fn add_match(
-    table: &[u16],
-    starts: &[u16],
-    store: &[usize],
-    used: usize,
-    m: usize,
-    found: Measure,
-) -> Measure
-    requires { ⌜ OneMore (now table) (now starts) (now store) used m found ⌝ }
+fn add_match(table: &[u16], store: &[usize], used: usize, m: usize, found: Measure) -> Measure
+    requires { ⌜ OneMore (now table) (now store) used m found ⌝ }
     ensures { λ r. ⌜ r ≡ measured (now (table .entry)) (treesTo (now (store .entry)) used (m + 1)) ⌝ }
 {
-    let count = trees::get_recursive_exact_part_count(table, starts, store, used, m);
+    let count = pool::count_at(store, m);
     if count < found.greatest {
         return found;
     }
@@ -85,7 +80,6 @@ fn add_match(
 // unchanged.
 pub fn write_answer(
     table: &[u16],
-    starts: &[u16],
     store: &[usize],
     used: usize,
     measure: Measure,
@@ -93,7 +87,7 @@ pub fn write_answer(
     answer: &mut [u32],
 )
     requires { ⌜ Stored (now store) used ⌝ }
-    requires { ⌜ Begun (now table) (now starts) ⌝ }
+    requires { ⌜ Counted (sceneOf (now table) [] []) (logOf (now store) used) ⌝ }
     requires { ⌜ Bounded (now table) (now store) used ⌝ }
     requires { ⌜ measure ≡ measured (now table) (treesIn (now store) used) ⌝ }
     requires { ⌜ FitFrom base (now store) used ⌝ }
@@ -110,7 +104,7 @@ pub fn write_answer(
         let m = i;
         i += 1;
         if pool::depth_at(store, m) == TOP {
-            let count = trees::get_recursive_exact_part_count(table, starts, store, used, m);
+            let count = pool::count_at(store, m);
             if count == greatest {
                 at = words::write_tree(store, used, m, base, answer, at);
             }

@@ -103,13 +103,7 @@ impl Pool {
     }
 
     // A record for an argument that is kept.
-    pub fn keep(
-        self,
-        store: &mut [usize],
-        argument: Argument,
-        prev: usize,
-        count: usize,
-    ) -> Room
+    pub fn keep(self, store: &mut [usize], argument: Argument, prev: usize, count: usize) -> Room
         requires { ⌜ length (now store) ≡ room ⌝ }
         requires { ⌜ self .used ≤ room ⌝ }
         requires { ⌜ ArgumentFits argument prev count ⌝ }

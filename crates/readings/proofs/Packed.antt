@@ -1,7 +1,7 @@
 -- The scene of an accepted call is lawful: its leaves are the ground crates' definitions, and their laws.
-use mathlib.Core.Path.{_≡_}
+use mathlib.Core.Path.{_≡_, refl}
 use mathlib.Core.Bool.{true}
-use mathlib.Core.List.{List}
+use mathlib.Core.List.{List, []}
 use Prim.Native.Nat.{ℕ, _≤_, _<_}
 use native.Mathlib.Omega.{arith}
 use lib.ListN.{length}
@@ -16,7 +16,10 @@ use Rattle.defs.specs.Ruledef.{isTop, rulesetOf}
 use Rattle.extents.specs.Sheet.{sheetFits}
 use Rattle.extents.specs.declared.Half.the-variants.{Free, Greedy}
 use Rattle.extents.proofs.Ends.{end-between}
+use Rattle.readings.specs.Tree.{Tree}
 use Rattle.readings.specs.Scene.{Scene, walkerAt, Lawful, sceneOf, based}
+use Rattle.readings.specs.Answer.{exactCount}
+use Rattle.readings.proofs.Moved.{count-by}
 
 -- what is found below a held limit lies at or after the cursor, and below the limit
 pub past-cursor : (line : List ℕ) (l c p : ℕ) → walkerAt line l c .cursor ≤ p → p < walkerAt line l c .limit → (c ≤ p) × (p ≤ l)
@@ -47,3 +50,8 @@ lawful-based b law = record {
   rules-apart = law .rules-apart;
   tops-apart = law .tops-apart;
 }
+
+-- exact counts look only at the table's parts
+pub count-free : (t line sheet : List ℕ) (u : Tree) → exactCount (sceneOf t line sheet) u ≡ exactCount (sceneOf t [] []) u
+unfolding sceneOf
+count-free t line sheet u = count-by (sceneOf t line sheet) (sceneOf t [] []) refl u

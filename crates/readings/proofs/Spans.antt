@@ -1,9 +1,9 @@
 -- A place in a pattern lies between the cursor it began at and its limit, and every exact part has taken a non-whitespace
 -- byte of its own: so an exact count is at most the line's non-whitespace bytes.
 use mathlib.Core.Path.{_≡_, sym, _∙_, subst, ap}
-use mathlib.Core.Bool.{Bool, true, not}
+use mathlib.Core.Bool.{Bool, true, false, not}
 use mathlib.Core.List.{List}
-use Prim.Native.Nat.{ℕ, suc, _+_, _≤_, _<_}
+use Prim.Native.Nat.{ℕ, zero, suc, _+_, _-_, _≤_, _<_}
 use native.Mathlib.Omega.{arith}
 use lib.ListN.{length}
 use Rattle.plain.specs.Choice.{select}
@@ -87,6 +87,26 @@ module _ (s : Scene) (law : Lawful s) where
       let (i, j) = under-within l c ps h p in
       let (a, b) = from-within i (omega arith) v in
       omega (arith, from-solids i (omega arith) v, from-solids (omega arith) k u)
+
+  -- a place further on there is at most one such byte more
+  solids-slow : (c k : ℕ) → solidsBefore (s .line) (c + k) ≤ solidsBefore (s .line) c + k
+  unfolding solidsBefore
+  solids-slow c zero = let e : c + 0 ≡ c = omega arith in rw e (omega arith)
+  solids-slow c (suc k) =
+      let e : c + suc k ≡ c + k + 1 = omega arith in
+      let one : select (not (isWhitespace (byteAt (s .line) (c + k)))) 1 0 ≤ 1 = at-most (not (isWhitespace (byteAt (s .line) (c + k)))) in
+      rw e (omega (arith, solids-slow c k, count-more (c + k) (λ i. not (isWhitespace (byteAt (s .line) i))), one))
+    where
+      at-most : (b : Bool) → select b 1 0 ≤ 1
+      at-most true = omega arith
+      at-most false = omega arith
+
+  -- so a match counts at most the bytes from where it began to where it ended
+  pub from-few : {l c e : ℕ} {ps : List Part} {a : Args} → c ≤ l → l ≤ length (s .line) → From s l ps c a e → exactParts ps + nestedCount s a + c ≤ e
+  from-few {c = c} {e = e} h k u =
+      let (i, j) = from-within h k u in
+      let q : c + (e - c) ≡ e = omega arith in
+      omega (arith, from-solids h k u, solids-slow c (e - c), ap (solidsBefore (s .line)) q)
 
   pub few-exact : {t : Tree} → Reading s t → exactCount s t ≤ solids (s .line)
   few-exact (reading i j w) = omega (arith, from-solids (omega arith) (omega arith) w)

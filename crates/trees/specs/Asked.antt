@@ -1,11 +1,7 @@
 -- What reading a tree from the pool's records asks.
-use mathlib.Core.Path.{_≡_}
-use mathlib.Core.Bool.{true}
 use mathlib.Core.List.{List}
 use Prim.Native.Nat.{ℕ, _≤_, _<_}
 use lib.ListN.{length}
-use Rattle.defs.specs.Table.{tableFits}
-use Rattle.defs.specs.Ruledef.{startsOf}
 use Rattle.readings.specs.Tree.{Tree, Args, end}
 use Rattle.readings.specs.Answer.{treeWords, argWords}
 use Rattle.pool.specs.Meaning.{Entry, unwind, chainAt, treeAt, Stored, entries}
@@ -21,12 +17,7 @@ treeLength t = length (treeWords t)
 abbrev pub argsLength : Args → ℕ
 argsLength a = length (argWords a)
 
--- an accepted table, with where its rulesets begin
-pub record Begun (t starts : List ℕ) : Type 0 where
-  pub begins : starts ≡ startsOf t
-  pub fits : tableFits t ≡ true
-
--- a match of the pool, of which a number, such as its exact count, is bounded
+-- a match of the pool, of which a number, such as how many words it has, is bounded
 pub record TreeAsked (size : Tree → ℕ) (most : ℕ) (store : List ℕ) (used m : ℕ) : Type 0 where
   pub stored : Stored store used
   pub below : m < used

@@ -10,10 +10,10 @@ use Rattle.answer.proofs.measure_answer.Statement.{statement}
 use Rattle.answer.proofs.measure_answer.Tie as tie
 
 abbrev Inv-loop : tie.InvT-loop
-Inv-loop table starts store used found₀ i₀ found i = (i ≤ used) × (found ≡ measured table (treesTo store used i))
+Inv-loop table store used found₀ i₀ found i = (i ≤ used) × (found ≡ measured table (treesTo store used i))
 
 abbrev μ-loop : tie.MeasureT-loop
-μ-loop table starts store used found₀ i₀ found i = used - i
+μ-loop table store used found₀ i₀ found i = used - i
 
 loop-holds : tie.Need-loop-holds Inv-loop μ-loop
 loop-holds c = (omega arith, none-measured _ ∙ ap (measured _) (sym (none-yet _ _)))
@@ -23,14 +23,14 @@ add-i c = omega arith
 
 depth-at-requires : tie.Need-depth-at-requires Inv-loop μ-loop
 depth-at-requires c κs =
-    let p = c .before .before .before .before .before .pre in
+    let p = c .before .before .before .before .pre in
     omega (arith, p .0 .sized, p .0 .room, c .loop-test .taken)
 
 add-match-requires : tie.Need-add-match-requires Inv-loop μ-loop
 add-match-requires c κs = record {
-  stored = c .before .before .before .before .before .before .before .pre .0;
-  begun = c .before .before .before .before .before .before .before .pre .1 .0;
-  bounded = c .before .before .before .before .before .before .before .pre .1 .1;
+  stored = c .before .before .before .before .before .before .pre .0;
+  counted = c .before .before .before .before .before .before .pre .1 .0;
+  bounded = c .before .before .before .before .before .before .pre .1 .1;
   below = c .before .before .loop-test .taken;
   top = sym (c .before .depth-at .ensures) ∙ c .if1 .taken;
   is = c .before .before .before .loop .inv .1;
@@ -47,12 +47,12 @@ loop-less-2 c = omega arith
 
 loop-again-2 : tie.Need-loop-again-2 Inv-loop μ-loop
 loop-again-2 c =
-    let p = c .before .before .before .before .before .before .before .pre in
+    let p = c .before .before .before .before .before .before .pre in
     let other = none-here _ _ (p .0) _ (c .before .before .loop-test .taken) (λ q. c .if1 .left (c .before .depth-at .ensures ∙ q)) in
     (omega arith, c .before .before .before .loop .inv .1 ∙ ap (measured _) (sym other))
 
 returns : tie.Need-returns Inv-loop μ-loop
-returns c = c .before .loop .inv .1 ∙ ap (measured _) (all-passed _ _ (c .before .before .before .before .before .pre .0) _ (c .loop-test .left))
+returns c = c .before .loop .inv .1 ∙ ap (measured _) (all-passed _ _ (c .before .before .before .before .pre .0) _ (c .loop-test .left))
 
 pub measure-answer-spec : {M : Type 1} → statement M
 measure-answer-spec =
