@@ -1,7 +1,7 @@
 -- The end of a pattern: a match is completed, unless a top rule ends short of the line's end or the pool is full.
-use mathlib.Core.Path.{_≡_, refl, sym, ap, _∙_}
+use mathlib.Core.Path.{_≡_, refl, sym, ap, subst, _∙_}
 use mathlib.Core.Bool.{true, false, not}
-use mathlib.Core.List.{List, [], _∷_}
+use mathlib.Core.List.{List, [], _∷_, _++_}
 use Prim.Native.Nat.{ℕ, zero, suc, _≤_, _<_, min}
 use native.Mathlib.Decide.{decLt}
 use native.Mathlib.Omega.{arith}
@@ -11,6 +11,7 @@ use Rattle.plain.proofs.Tests.{not-both}
 use Rattle.syntax.specs.Walker.{held, over}
 use Rattle.syntax.specs.declared.walker.Walker.{Walker}
 use Rattle.readings.specs.Tree.{end}
+use Rattle.readings.specs.Scene.{sceneOf}
 use Rattle.readings.specs.Plan.{give, keep, Outcome, done, run}
 use Rattle.readings.specs.Walk.{Found}
 use Rattle.pool.specs.declared.Pool.{Pool}
@@ -18,11 +19,13 @@ use Rattle.pool.specs.declared.Record.{Record}
 use Rattle.pool.specs.declared.Record.the-variants.{Completed}
 use Rattle.pool.specs.Log.{logOf, Added}
 use Rattle.pool.specs.Meaning.{Stored}
+use Rattle.pool.specs.Counted.{Counted}
 use Rattle.pool.proofs.Words.{log-length}
+use Rattle.pool.proofs.Counts.{match-counted}
 use Rattle.walk.specs.declared.Place.{Place}
 use Rattle.walk.specs.declared.Walked.the-variants.{Done, Stopped}
 use Rattle.walk.specs.declared.Refusal.the-variants.{Full}
-use Rattle.walk.specs.Met.{finishes, finishPlan, ran, Left, went, halted}
+use Rattle.walk.specs.Met.{finishes, finishPlan, ran, Ended, Left, went, halted}
 use Rattle.walk.proofs.Outcomes.{keep-full, keep-more}
 use Rattle.walk.proofs.Logs.{made-none, made-match}
 
@@ -53,7 +56,7 @@ module _ (n c : ℕ) (depth : ℕ) where
       go zero h = eq-eqb n c (sym (h refl))
       go (suc d) h = refl
 
-module _ (n c left : ℕ) (place : Place) (pool : Pool) (store : List ℕ) (stored : Stored store (pool .used)) where
+module _ (n c left : ℕ) (place : Place) (count : ℕ) (pool : Pool) (store : List ℕ) (stored : Stored store (pool .used)) where
   abbrev log : List Record
   log = logOf store (pool .used)
 
@@ -64,27 +67,33 @@ module _ (n c left : ℕ) (place : Place) (pool : Pool) (store : List ℕ) (stor
   unfolding finishPlan run
   nothing-found e h = rw (finishPlan, ends-short n c (place .depth) e h)
 
-  pub finish-short : place .depth ≡ 0 → (c ≡ n → ⊥) → Left planned place log store (Done left pool)
-  finish-short e h = went (record {
+  pub finish-short : place .depth ≡ 0 → (c ≡ n → ⊥) → (t : List ℕ) → Ended t store (pool .used) place count → Left t planned place log store (Done left pool)
+  finish-short e h t ended = went (record {
     founds = [];
     done-with = nothing-found e h;
     made = made-none (place .depth) log (stored .earlier);
+    counted = ended .counted;
   })
 
   completes : (place .depth ≡ 0 → c ≡ n) → planned ≡ run (keep (give ((end, c) ∷ []))) left (pool .used)
   unfolding finishPlan
   completes h = rw (finishPlan, ends-well n c (place .depth) h)
 
-  pub finish-full : (store′ : List ℕ) → (place .depth ≡ 0 → c ≡ n) → pool .used ≡ 4096 → Left planned place log store′ (Stopped Full left)
-  finish-full store′ h e = halted (completes h ∙ keep-full (give ((end, c) ∷ [])) left (pool .used) e)
+  pub finish-full : (store′ : List ℕ) → (place .depth ≡ 0 → c ≡ n) → pool .used ≡ 4096 → (t : List ℕ) → Ended t store (pool .used) place count → Left t planned place log store′ (Stopped Full left)
+  finish-full store′ h e t ended = halted (completes h ∙ keep-full (give ((end, c) ∷ [])) left (pool .used) e)
 
   pub finish-kept : (store′ : List ℕ) (more : Pool) → (place .depth ≡ 0 → c ≡ n) → place .args ≤ pool .used
-      → Added (pool .used) store store′ (Completed (place .depth) (place .set) (place .rule) (place .args) c) more → Left planned place log store′ (Done left more)
+      → Added (pool .used) store store′ (Completed (place .depth) (place .set) (place .rule) (place .args) c count) more
+      → (t : List ℕ) → Ended t store (pool .used) place count → Left t planned place log store′ (Done left more)
   unfolding run
-  finish-kept store′ more h few a = went (record {
+  finish-kept store′ more h few a t ended = went (record {
     founds = (end, c) ∷ [];
     done-with = completes h ∙ keep-more (give ((end, c) ∷ [])) left (pool .used) (a .room) ∙ ap (λ (u : ℕ). done left u ((end, c) ∷ [])) (sym (a .counted));
-    made = made-match (place .depth) log (logOf store′ (more .used)) (stored .earlier) (place .set) (place .rule) (place .args) c
-        (ap (logOf store′) (a .counted) ∙ a .grown)
+    made = made-match (place .depth) log (logOf store′ (more .used)) (stored .earlier) (place .set) (place .rule) (place .args) c count
+        grown
         (omega (arith, few, log-length store (pool .used) (omega (arith, stored .sized, stored .room))));
+    counted = subst (Counted (sceneOf t [] [])) (sym grown) (match-counted (sceneOf t [] []) log (ended .counted) (place .depth) c (ended .own) (ended .whole));
   })
+    where
+      grown : logOf store′ (more .used) ≡ log ++ (Completed (place .depth) (place .set) (place .rule) (place .args) c count ∷ [])
+      grown = ap (logOf store′) (a .counted) ∙ a .grown

@@ -1,6 +1,6 @@
 -- The expression step's loop over candidate ends. The loop knows the useful place and the ends, as the code holds them; with
 -- these its turns are the plan's.
-use mathlib.Core.Path.{_≡_, sym, ap, subst, _∙_}
+use mathlib.Core.Path.{_≡_, refl, sym, ap, subst, _∙_}
 use mathlib.Core.List.{List, [], _∷_, _++_, map, List·Memᴰ}
 use Prim.Native.Nat.{ℕ, _+_, _≤_, _<_, min}
 use native.Mathlib.Omega.{arith}
@@ -25,16 +25,18 @@ use Rattle.pool.specs.declared.Record.{Record}
 use Rattle.pool.specs.declared.Record.the-variants.{Kept}
 use Rattle.pool.specs.Log.{logOf, ArgumentFits, Added}
 use Rattle.pool.specs.Meaning.{Stored, entries}
+use Rattle.pool.specs.Counted.{Counted}
 use Rattle.walk.specs.declared.Place.{Place}
 use Rattle.walk.specs.declared.Walked.{Walked}
 use Rattle.walk.specs.declared.Walked.the-variants.{Done, Stopped}
 use Rattle.walk.specs.declared.Refusal.{Refusal}
 use Rattle.walk.specs.declared.Refusal.the-variants.{Full}
-use Rattle.walk.specs.Met.{rulePlan, exprPlan, exprTurn, ran, Ready, Made, wholeAt, Left, went, halted, afterArg}
+use Rattle.walk.specs.Met.{rulePlan, exprPlan, exprTurn, ran, Ready, toCome, fromExpr, Stands, Made, wholeAt, Left, went, halted, afterArg}
 use Rattle.walk.proofs.Held.{held-at, held-is, member-at}
 use Rattle.walk.proofs.Turns.{turn, turn-full, turn-stored}
 use Rattle.walk.proofs.Loops.{Did, did-none, did-same, did-longer, index-end, index-stop, next-taken}
 use Rattle.walk.proofs.Turned.{turned, turn-refused}
+use Rattle.walk.proofs.Standing.{stands-later, addsOf, kept-stands, kept-counted}
 
 -- an expression's argument
 abbrev pub exprArg : ℕ → ℕ → Argument
@@ -51,7 +53,7 @@ heldIn es = take (es .count) (es .places)
 -- the loop's invariant
 abbrev pub ExprDid : List ℕ → List ℕ → List ℕ → Place → ℕ → ℕ → Ends → ℕ → ℕ → List ℕ → ℕ → ℕ → ℕ → List ℕ → Type 0
 ExprDid t line sheet place l g es v₀ u₀ store₀ i v u store =
-    Did (exprFrom t line sheet place l g) (wholeAt place (logOf store₀ u₀)) (place .depth) (take i (heldIn es)) v₀ u₀ store₀ v u store
+    Did t (exprFrom t line sheet place l g) (wholeAt place (logOf store₀ u₀)) (place .depth) (take i (heldIn es)) v₀ u₀ store₀ v u store
 
 -- where a move to an end below the limit leads
 pub moved-there : {t line sheet starts store₀ : List ℕ} {place : Place} {w : Walker} {pool : Pool} → Ready t line sheet starts store₀ place w pool
@@ -60,9 +62,9 @@ moved-there {line = line} {w = w} r e h = index-set line w e (r .cursor, r .limi
 
 -- what the next walk asks, of a walker that was moved to an end below the limit
 pub ready-after : {t line sheet starts store₀ : List ℕ} {place : Place} {w : Walker} {pool : Pool} → Ready t line sheet starts store₀ place w pool
-    → (store : List ℕ) (more : Pool) (e : ℕ) {next : Place} → next ≡ afterArg place (more .used) → e ≤ w .limit → Stored store (more .used)
-    → {moved : Walker} → moved ≡ movedTo line e (held line w) → Ready t line sheet starts store next moved more
-ready-after {t} {line} {sheet} {starts} {w = w} r store more e {next} n h s is =
+    → (store : List ℕ) (more : Pool) (e : ℕ) {n : ℕ} {next : Place} → next ≡ afterArg place (more .used) n → e ≤ w .limit → Stored store (more .used)
+    → Counted (sceneOf t [] []) (logOf store (more .used)) → {moved : Walker} → moved ≡ movedTo line e (held line w) → Ready t line sheet starts store next moved more
+ready-after {t} {line} {sheet} {starts} {w = w} r store more e {next = next} n h s counts is =
     subst (λ (v : Walker). Ready t line sheet starts store next v more) (sym (is ∙ moved-there r e h))
     (subst (λ (q : Place). Ready t line sheet starts store q (record { cursor = e; limit = w .limit }) more) (sym n) (record {
       table = r .table;
@@ -70,6 +72,7 @@ ready-after {t} {line} {sheet} {starts} {w = w} r store more e {next} n h s is =
       short = r .short;
       begins = r .begins;
       stored = s;
+      counted = counts;
       sets = r .sets;
       rules = r .rules;
       parts = r .parts;
@@ -82,13 +85,21 @@ ready-after {t} {line} {sheet} {starts} {w = w} r store more e {next} n h s is =
       top = r .top;
     }))
 
+-- where the match stands at the next place
+pub stands-after : {t line sheet starts store₀ : List ℕ} {place : Place} {w : Walker} {pool : Pool} → Ready t line sheet starts store₀ place w pool
+    → {store : List ℕ} {more : Pool} {e n : ℕ} {next : Place} → next ≡ afterArg place (more .used) n → e ≤ w .limit → {moved : Walker} → moved ≡ movedTo line e (held line w)
+    → Stands t store (more .used) (afterArg place (more .used) n) n (toCome t place) e → Stands t store (more .used) next (next .count) (toCome t next) (moved .cursor)
+stands-after {t} {store₀ = store₀} r {store} {more} {e} {next = next} next-is h is x =
+    subst (λ (v : Walker). Stands t store (more .used) next (next .count) (toCome t next) (v .cursor)) (sym (is ∙ moved-there r e h))
+    (subst (λ (q : Place). Stands t store (more .used) q (q .count) (toCome t q) e) (sym next-is) x)
+
 -- what a walk from the next place left
-pub left-after-arg : (t line sheet : List ℕ) (place : Place) (more : Pool) (l e v : ℕ) {log : List Record} {store : List ℕ} {r : Walked} {next : Place} → next ≡ afterArg place (more .used)
-    → {moved : Walker} → moved ≡ record { cursor = e; limit = l } → Left (ran (rulePlan t line sheet (next .depth) (next .at) (next .end) (moved .limit) (moved .cursor)) v more) next log store r
-    → Left (ran (rulePlan t line sheet (place .depth) (place .at) (place .end) l e) v more) (afterArg place (more .used)) log store r
-left-after-arg t line sheet place more l e v {log} {store} {r} {next} n is m =
-    subst (λ (q : Place). Left (ran (rulePlan t line sheet (q .depth) (q .at) (q .end) l e) v more) q log store r) n
-    (subst (λ (w : Walker). Left (ran (rulePlan t line sheet (next .depth) (next .at) (next .end) (w .limit) (w .cursor)) v more) next log store r) is m)
+pub left-after-arg : (t line sheet : List ℕ) (place : Place) (more : Pool) (l e v : ℕ) {n : ℕ} {log : List Record} {store : List ℕ} {r : Walked} {next : Place} → next ≡ afterArg place (more .used) n
+    → {moved : Walker} → moved ≡ record { cursor = e; limit = l } → Left t (ran (rulePlan t line sheet (next .depth) (next .at) (next .end) (moved .limit) (moved .cursor)) v more) next log store r
+    → Left t (ran (rulePlan t line sheet (place .depth) (place .at) (place .end) l e) v more) (afterArg place (more .used) n) log store r
+left-after-arg t line sheet place more l e v {log = log} {store = store} {r = r} {next = next} n is m =
+    subst (λ (q : Place). Left t (ran (rulePlan t line sheet (q .depth) (q .at) (q .end) l e) v more) q log store r) n
+    (subst (λ (w : Walker). Left t (ran (rulePlan t line sheet (next .depth) (next .at) (next .end) (w .limit) (w .cursor)) v more) next log store r) is m)
 
 module _ {t line sheet starts store₀ : List ℕ} {place : Place} {w : Walker} {pool : Pool} (ready : Ready t line sheet starts store₀ place w pool) (visits : ℕ)
     (g : ℕ) (g-is : g ≡ useful line (held line w)) (es : Ends) (es-is : es ≡ heldEnds (ends (sceneOf t line sheet) (w .limit) (w .cursor) (partsBetween t (place .at) (place .end)))) where
@@ -130,11 +141,11 @@ module _ {t line sheet starts store₀ : List ℕ} {place : Place} {w : Walker} 
       ∙ ap (λ (l : List ℕ). run (each l (exprFrom t line sheet place (w .limit) g)) visits (pool .used)) (sym places-are)
 
   pub expr-start : ExprDid t line sheet place (w .limit) g es visits (pool .used) store₀ 0 visits (pool .used) store₀
-  expr-start = did-none (exprFrom t line sheet place (w .limit) g) (wholeAt place (logOf store₀ (pool .used))) (place .depth) visits (pool .used) store₀ (ready .stored)
+  expr-start = did-none t (exprFrom t line sheet place (w .limit) g) (wholeAt place (logOf store₀ (pool .used))) (place .depth) visits (pool .used) store₀ (ready .stored) (ready .counted)
 
   module _ {i v u : ℕ} {store : List ℕ} (did : ExprDid t line sheet place (w .limit) g es visits (pool .used) store₀ i v u store) where
     pub expr-end : (has : Pool) → has .used ≡ u → es .count ≤ i
-        → Left (ran (exprPlan t line sheet (place .depth) (place .at) (place .end) (w .limit) (w .cursor)) visits pool) place (logOf store₀ (pool .used)) store (Done v has)
+        → Left t (ran (exprPlan t line sheet (place .depth) (place .at) (place .end) (w .limit) (w .cursor)) visits pool) place (logOf store₀ (pool .used)) store (Done v has)
     expr-end has e h =
         let all = index-end (exprFrom t line sheet place (w .limit) g) (wholeAt place (logOf store₀ (pool .used))) (place .depth) (heldIn es) i did (omega (arith, long)) in
         went
@@ -142,6 +153,7 @@ module _ {t line sheet starts store₀ : List ℕ} {place : Place} {w : Walker} 
           founds = all .gave;
           done-with = plan-is ∙ all .done-with ∙ ap (λ (n : ℕ). done v n (all .gave)) (sym e);
           made = subst (λ (n : ℕ). Made (place .depth) (logOf store₀ (pool .used)) (logOf store n) (map (wholeAt place (logOf store₀ (pool .used))) (all .gave))) (sym e) (all .made);
+          counted = subst (λ (n : ℕ). Counted (sceneOf t [] []) (logOf store n)) (sym e) (all .counted);
         })
 
     module _ (h : i < es .count) (e : ℕ) (is : e ≡ getD (es .places) i 0) where
@@ -153,46 +165,65 @@ module _ {t line sheet starts store₀ : List ℕ} {place : Place} {w : Walker} 
           ends-within s (lawful t line sheet (ready .extents)) (w .limit) (w .cursor) (partsBetween t (place .at) (place .end)) (ready .cursor) e
           (subst (λ (n : ℕ). List·Memᴰ n xs) (sym (is-next ∙ ap (λ (l : List ℕ). getD l i 0) places-are)) (member-at xs i (omega (arith, count-is))))
 
-      pub expr-fits : {st : ℕ} → st ≡ min e g → ArgumentFits (exprArg st e) (place .args)
-      expr-fits st-is = record {
+      pub expr-fits : {st : ℕ} → st ≡ min e g → place .count ≤ w .cursor → ArgumentFits (exprArg st e) (place .args) (place .count)
+      expr-fits st-is few-counts = record {
         start = omega (arith, expr-within .1, ready .limit, ready .short, st-is);
         end = omega (arith, expr-within .1, ready .limit, ready .short);
         before = omega (arith, ready .last, ready .stored .room);
         inner = omega arith;
+        counts = omega (arith, few-counts, ready .cursor, ready .limit, ready .short);
       }
 
       stops : {n l : ℕ} → run (exprFrom t line sheet place (w .limit) g e) v u ≡ stop n l → ran (exprPlan t line sheet (place .depth) (place .at) (place .end) (w .limit) (w .cursor)) visits pool ≡ stop n l
       stops q = plan-is ∙ index-stop (exprFrom t line sheet place (w .limit) g) (wholeAt place (logOf store₀ (pool .used))) (place .depth) (heldIn es) i did (omega (arith, long)) e 0 is-next q
 
       pub expr-full : (store′ : List ℕ) → u ≡ 4096
-          → Left (ran (exprPlan t line sheet (place .depth) (place .at) (place .end) (w .limit) (w .cursor)) visits pool) place (logOf store₀ (pool .used)) store′ (Stopped Full v)
+          → Left t (ran (exprPlan t line sheet (place .depth) (place .at) (place .end) (w .limit) (w .cursor)) visits pool) place (logOf store₀ (pool .used)) store′ (Stopped Full v)
       expr-full store′ q = halted (stops (turn-full [] (exprArg (min e g) e) (rulePlan t line sheet (place .depth) (place .at) (place .end) (w .limit) e) v u q))
 
-      module _ (st : ℕ) (st-is : st ≡ min e g) (store′ : List ℕ) (more : Pool) (added : Added u store store′ (Kept (exprArg st e) (place .args)) more) where
+      module _ (st : ℕ) (st-is : st ≡ min e g) (store′ : List ℕ) (more : Pool) (added : Added u store store′ (Kept (exprArg st e) (place .args) (place .count)) more) where
         same-turn : exprFrom t line sheet place (w .limit) g e ≡ turn (entries store u) (exprArg st e) (rulePlan t line sheet (place .depth) (place .at) (place .end) (w .limit) e)
         same-turn = ap (λ (n : ℕ). turn [] (exprArg n e) (rulePlan t line sheet (place .depth) (place .at) (place .end) (w .limit) e)) (sym st-is)
 
-        pub expr-ready : {next : Place} → next ≡ afterArg place (more .used) → length store′ ≡ 4096 → {moved : Walker} → moved ≡ movedTo line e (held line w) → Ready t line sheet starts store′ next moved more
-        expr-ready next z =
-            ready-after ready store′ more e next (expr-within .1)
-            (turn-stored place (exprArg st e) (rulePlan t line sheet (place .depth) (place .at) (place .end) (w .limit) e) v u store store′ more (did .stored)
-            (omega (arith, ready .last, did-longer did (ready .stored))) tt added z)
+        module _ (standing : Stands t store₀ (pool .used) place (place .count) (fromExpr t place) (w .cursor)) where
+          -- the match as it stands in the store of this turn
+          here : Stands t store u place (place .count) (fromExpr t place) (w .cursor)
+          here = stands-later (did .made .new) (did .made .grown) standing
 
-        module _ {next : Place} (next-is : next ≡ afterArg place (more .used)) {moved : Walker} (moved-is : moved ≡ movedTo line e (held line w)) {r : Walked} {store″ : List ℕ}
-            (m : Left (ran (rulePlan t line sheet (next .depth) (next .at) (next .end) (moved .limit) (moved .cursor)) v more) next (logOf store′ (more .used)) store″ r) where
-          from-there : Left (ran (rulePlan t line sheet (place .depth) (place .at) (place .end) (w .limit) e) v more) (afterArg place (more .used)) (logOf store′ (more .used)) store″ r
+          sum : place .count ≡ place .count + addsOf (sceneOf t [] []) (entries store u) Expr
+          sum = omega arith
+
+          pub expr-stands : {next : Place} → next ≡ afterArg place (more .used) (place .count) → {moved : Walker} → moved ≡ movedTo line e (held line w)
+              → Stands t store′ (more .used) next (next .count) (toCome t next) (moved .cursor)
+          expr-stands next-is moved-is =
+              stands-after ready next-is (expr-within .1) moved-is
+              (kept-stands refl (did .stored) (did .counted) here (exprArg st e) added sum (omega (arith, standing .small, expr-within .0)))
+
+          pub expr-counted : Counted (sceneOf t [] []) (logOf store′ (more .used))
+          expr-counted = kept-counted refl (did .stored) (did .counted) here (exprArg st e) added sum
+
+        pub expr-ready : {next : Place} → next ≡ afterArg place (more .used) (place .count) → length store′ ≡ 4096 → Counted (sceneOf t [] []) (logOf store′ (more .used))
+            → {moved : Walker} → moved ≡ movedTo line e (held line w) → Ready t line sheet starts store′ next moved more
+        expr-ready next z counts =
+            ready-after ready store′ more e next (expr-within .1)
+            (turn-stored place (exprArg st e) (place .count) (rulePlan t line sheet (place .depth) (place .at) (place .end) (w .limit) e) v u store store′ more (did .stored)
+            (omega (arith, ready .last, did-longer did (ready .stored))) tt added z) counts
+
+        module _ {next : Place} (next-is : next ≡ afterArg place (more .used) (place .count)) {moved : Walker} (moved-is : moved ≡ movedTo line e (held line w)) {r : Walked} {store″ : List ℕ}
+            (m : Left t (ran (rulePlan t line sheet (next .depth) (next .at) (next .end) (moved .limit) (moved .cursor)) v more) next (logOf store′ (more .used)) store″ r) where
+          from-there : Left t (ran (rulePlan t line sheet (place .depth) (place .at) (place .end) (w .limit) e) v more) (afterArg place (more .used) (place .count)) (logOf store′ (more .used)) store″ r
           from-there = left-after-arg t line sheet place more (w .limit) e v next-is (moved-is ∙ moved-there ready e (expr-within .1)) m
 
           pub expr-again : {l : ℕ} {q : Pool} → r ≡ Done l q → length store″ ≡ 4096 → ExprDid t line sheet place (w .limit) g es visits (pool .used) store₀ (i + 1) l (q .used) store″
           expr-again x z =
               did-same (ap (λ (n : ℕ). take i (heldIn es) ++ (n ∷ [])) is-next ∙ sym (next-taken (heldIn es) 0 i (omega (arith, long))))
-              (turned (exprFrom t line sheet place (w .limit) g) place did (ready .stored) (ready .last) (exprArg st e)
+              (turned (exprFrom t line sheet place (w .limit) g) place did (ready .stored) (ready .last) (exprArg st e) (place .count)
               (rulePlan t line sheet (place .depth) (place .at) (place .end) (w .limit) e) e same-turn store′ more tt added from-there x z)
 
           pub expr-halt : {why : Refusal} {l : ℕ} → r ≡ Stopped why l
-              → Left (ran (exprPlan t line sheet (place .depth) (place .at) (place .end) (w .limit) (w .cursor)) visits pool) place (logOf store₀ (pool .used)) store″ (Stopped why l)
+              → Left t (ran (exprPlan t line sheet (place .depth) (place .at) (place .end) (w .limit) (w .cursor)) visits pool) place (logOf store₀ (pool .used)) store″ (Stopped why l)
           expr-halt x =
               halted
               (stops
-              (turn-refused (exprFrom t line sheet place (w .limit) g) place did (ready .stored) (ready .last) (exprArg st e)
+              (turn-refused (exprFrom t line sheet place (w .limit) g) place did (ready .stored) (ready .last) (exprArg st e) (place .count)
               (rulePlan t line sheet (place .depth) (place .at) (place .end) (w .limit) e) e same-turn store′ more tt added from-there x))

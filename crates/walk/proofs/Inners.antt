@@ -17,7 +17,7 @@ use Rattle.readings.specs.Walk.{Match, anySame, sameMatch}
 use Rattle.pool.specs.declared.Argument.{Argument}
 use Rattle.pool.specs.declared.Record.{Record}
 use Rattle.pool.specs.declared.Record.the-variants.{Kept, Completed}
-use Rattle.pool.specs.Log.{decode, Digits, MatchFits, depthIn}
+use Rattle.pool.specs.Log.{decode, Digits, MatchFits, depthIn, countIn}
 use Rattle.pool.specs.Meaning.{none, Entry, argued, treeAt, entryOf, gathered, Stored, entries}
 use Rattle.pool.proofs.Gathers.{entries-length, entry-here, ends-at, nothing-here, something-here}
 use Rattle.walk.specs.declared.Inner.the-variants.{Ends, Nothing}
@@ -64,24 +64,29 @@ module _ (store : List ℕ) (used : ℕ) (stored : Stored store used) where
   -- ---- where an inner match ended
 
   module _ (d : ℕ) (few : d < 32) (first m : ℕ) (below : m < used) {x : Record} (is : x ≡ decode (getD store m 0)) (digits : Digits x) where
+    abbrev found : Record
+    found = decode (getD store m 0)
+
     abbrev seen : List Match
     seen = gathered d (made es first m)
 
-    pub inner-argument : {a : Argument} {p : ℕ} → x ≡ Kept a p → InnerOf d es first m Nothing
+    pub inner-argument : {a : Argument} {p c : ℕ} → x ≡ Kept a p c → InnerOf d es first m found Nothing
     inner-argument y = no-match (ap (freshOf d seen) (entry-here store used stored m below is digits ∙ ap (entryOf es) y))
 
-    module _ {n r k a e : ℕ} (y : x ≡ Completed n r k a e) where
+    module _ {n r k a e c : ℕ} (y : x ≡ Completed n r k a e c) where
       fresh-is : freshOf d seen (getD es m (argued none)) ≡ select (eqb n d && not (anySame sameMatch seen (treeAt es m, e))) ((treeAt es m, e) ∷ []) []
       fresh-is = ap (freshOf d seen) (ends-at store used stored m below is digits y)
 
-      pub inner-other : (n ≡ d → ⊥) → InnerOf d es first m Nothing
+      pub inner-other : (n ≡ d → ⊥) → InnerOf d es first m found Nothing
       inner-other ne = no-match (fresh-is ∙ ap (λ (b : Bool). select (b && not (anySame sameMatch seen (treeAt es m, e))) ((treeAt es m, e) ∷ []) []) (ne-eqb n d ne))
 
-      module _ (q : n ≡ d) {s : Bool} (same : (c : ℕ) → s ≡ anySame sameMatch seen (treeAt es m, c)) where
-        pub inner-same : s ≡ true → InnerOf d es first m Nothing
+      module _ (q : n ≡ d) {s : Bool} (same : (z : ℕ) → s ≡ anySame sameMatch seen (treeAt es m, z)) where
+        pub inner-same : s ≡ true → InnerOf d es first m found Nothing
         inner-same t = no-match (fresh-is ∙ rw (eq-eqb n d q, sym (same e) ∙ t))
 
-        pub inner-new : s ≡ false → InnerOf d es first m (Ends e)
+        pub inner-new : s ≡ false → InnerOf d es first m found (Ends e c)
         inner-new t =
-            let f : MatchFits n r k a e = subst Digits y digits in
-            new-match (f .place) (fresh-is ∙ rw (eq-eqb n d q, sym (same e) ∙ t))
+            let f : MatchFits n r k a e c = subst Digits y digits in
+            let counts : countIn found ≡ c = sym (ap countIn is) ∙ ap countIn y in
+            subst (λ (b : ℕ). InnerOf d es first m found (Ends e b)) counts
+            (new-match (f .place) (sym (ap depthIn is) ∙ ap depthIn y ∙ q) (fresh-is ∙ rw (eq-eqb n d q, sym (same e) ∙ t)))

@@ -5,6 +5,7 @@ pub mod Inners
 pub mod Turns
 pub mod Loops
 pub mod Turned
+pub mod Standing
 pub mod Places
 pub mod Held
 pub mod Exprs

@@ -53,24 +53,24 @@ made-deeper {d} a = record {
 }
 
 module _ (d : ℕ) (log log′ : List Record) (e : Earlier log) where
-  pub made-argument : (a : Argument) (p : ℕ) → log′ ≡ log ++ (Kept a p ∷ []) → Links (length log) (Kept a p) → Made d log log′ []
+  pub made-argument : (a : Argument) (p n : ℕ) → log′ ≡ log ++ (Kept a p n ∷ []) → Links (length log) (Kept a p n) → Made d log log′ []
   unfolding meaning gathered
-  made-argument a p g l = record {
-    new = Kept a p ∷ [];
+  made-argument a p n g l = record {
+    new = Kept a p n ∷ [];
     grown = g;
     found = refl;
     shallow = λ n h. refl;
-    earlier = subst Earlier (sym g) (earlier-more log (Kept a p) e l);
+    earlier = subst Earlier (sym g) (earlier-more log (Kept a p n) e l);
   }
 
-  pub made-match : (r k a c : ℕ) → log′ ≡ log ++ (Completed d r k a c ∷ []) → a ≤ length log → Made d log log′ ((node r k (unwind (chainAt (meanings log) a) end), c) ∷ [])
+  pub made-match : (r k a c m : ℕ) → log′ ≡ log ++ (Completed d r k a c m ∷ []) → a ≤ length log → Made d log log′ ((node r k (unwind (chainAt (meanings log) a) end), c) ∷ [])
   unfolding meaning gathered
-  made-match r k a c g l = record {
-    new = Completed d r k a c ∷ [];
+  made-match r k a c m g l = record {
+    new = Completed d r k a c m ∷ [];
     grown = g;
     found = rw (gathered, eq-eqb d d refl);
     shallow = λ n h. rw (gathered, ne-eqb d n (λ q. omega arith));
-    earlier = subst Earlier (sym g) (earlier-more log (Completed d r k a c) e l);
+    earlier = subst Earlier (sym g) (earlier-more log (Completed d r k a c m) e l);
   }
 
 -- what a number stood for, it stands for still

@@ -15,25 +15,29 @@ use Rattle.syntax.specs.declared.walker.Walker.{Walker}
 use Rattle.defs.specs.Table.{partsBetween}
 use Rattle.readings.specs.Tree.{Tree, nest}
 use Rattle.readings.specs.Scene.{sceneOf}
+use Rattle.readings.specs.Answer.{exactCount}
 use Rattle.readings.specs.Plan.{Plan, keep, Outcome, done, stop, run, _then_, each, mapped}
 use Rattle.readings.specs.Walk.{Found, Match, under, depths, limits, firsts, fresh, unless, anySame, sameMatch}
 use Rattle.readings.proofs.Leaves.{alone}
-use Rattle.readings.proofs.Packed.{lawful}
+use Rattle.readings.proofs.Packed.{lawful, count-free}
 use Rattle.readings.proofs.Plans.{each-source}
 use Rattle.readings.proofs.Runs.{run-done}
 use Rattle.readings.proofs.Firsts.{firsts-mem}
 use Rattle.readings.proofs.Walks.{under-lists}
-use Rattle.readings.proofs.Spans.{from-within}
+use Rattle.readings.proofs.Spans.{from-within, from-few}
 use Rattle.lookahead.specs.declared.Limits.{Limits}
 use Rattle.lookahead.specs.Held.{heldLimits}
 use Rattle.lookahead.proofs.Choices.{limits-within}
 use Rattle.pool.specs.declared.ArgumentKind.the-variants.{Nested}
 use Rattle.pool.specs.declared.Argument.{Argument}
 use Rattle.pool.specs.declared.Pool.{Pool}
+use Rattle.pool.specs.declared.Record.{Record}
 use Rattle.pool.specs.declared.Record.the-variants.{Kept}
-use Rattle.pool.specs.Log.{logOf, ArgumentFits, Added}
+use Rattle.pool.specs.Log.{decode, logOf, countIn, ArgumentFits, Added}
 use Rattle.pool.specs.Meaning.{none, Entry, argued, completed, treeAt, meaning, meanings, gathered, Stored, entries}
+use Rattle.pool.specs.Counted.{Counted}
 use Rattle.pool.proofs.Words.{log-length}
+use Rattle.pool.proofs.Counts.{count-read}
 use Rattle.pool.proofs.Gathers.{entries-length}
 use Rattle.pool.proofs.Meanings.{meanings-more, gathered-append, tree-stays}
 use Rattle.walk.specs.declared.Place.{Place}
@@ -43,13 +47,14 @@ use Rattle.walk.specs.declared.Walked.{Walked}
 use Rattle.walk.specs.declared.Walked.the-variants.{Done, Stopped}
 use Rattle.walk.specs.declared.Refusal.{Refusal}
 use Rattle.walk.specs.declared.Refusal.the-variants.{Deep}
-use Rattle.walk.specs.Met.{rulePlan, nestedPlan, nestTurn, ran, Ready, Made, wholeAt, numberOf, Left, went, halted, afterArg, made, freshOf, InnerOf, new-match, no-match}
+use Rattle.walk.specs.Met.{rulePlan, nestedPlan, nestTurn, ran, Ready, toCome, fromNest, Stands, Made, wholeAt, numberOf, Left, went, halted, afterArg, made, freshOf, InnerOf, new-match, no-match}
 use Rattle.walk.proofs.Outcomes.{then-done, then-stop}
 use Rattle.walk.proofs.Logs.{made-join, made-deeper}
 use Rattle.walk.proofs.Turns.{turn, turn-full, turn-stored}
 use Rattle.walk.proofs.Loops.{Did, did-none, did-same, did-stop, did-longer, index-end}
 use Rattle.walk.proofs.Turned.{turned, turn-refused, whole-stays}
-use Rattle.walk.proofs.Exprs.{moved-there, ready-after, left-after-arg}
+use Rattle.walk.proofs.Standing.{stands-later, addsOf, kept-stands, kept-counted}
+use Rattle.walk.proofs.Exprs.{moved-there, ready-after, stands-after, left-after-arg}
 use Rattle.walk.proofs.Rules.{itself, limitsIn, underLimit, LimitsDid, limits-listed, limit-long}
 
 -- ---- one entry more
@@ -138,7 +143,7 @@ pub record NestDid (t line sheet : List ℕ) (place : Place) (l g first v₀ u�
   pub low : first ≤ m
   pub high : m ≤ u₀
   pub start : Stored store₀ u₀
-  pub did : Did (nestFrom t line sheet place l g) (wholeAt place (logOf store₀ u₀)) (place .depth) (innersOf store₀ u₀ (place .depth) first m) v₀ u₀ store₀ v u store
+  pub did : Did t (nestFrom t line sheet place l g) (wholeAt place (logOf store₀ u₀)) (place .depth) (innersOf store₀ u₀ (place .depth) first m) v₀ u₀ store₀ v u store
 
 module _ {t line sheet starts store₀ : List ℕ} {place : Place} {w : Walker} {pool : Pool} (ready : Ready t line sheet starts store₀ place w pool) (deep : place .depth < 16) (g : ℕ) where
   abbrev d : ℕ
@@ -147,14 +152,14 @@ module _ {t line sheet starts store₀ : List ℕ} {place : Place} {w : Walker} 
   abbrev f : Match → Plan (List Found)
   f = nestFrom t line sheet place (w .limit) g
 
-  pub nest-start : {v u : ℕ} {store : List ℕ} → Stored store u → pool .used ≤ u → NestDid t line sheet place (w .limit) g (pool .used) v u store (pool .used) v u store
+  pub nest-start : {v u : ℕ} {store : List ℕ} → Stored store u → Counted (sceneOf t [] []) (logOf store u) → pool .used ≤ u → NestDid t line sheet place (w .limit) g (pool .used) v u store (pool .used) v u store
   unfolding firsts fresh gathered
-  nest-start {v} {u} {store} st h = record {
+  nest-start {v} {u} {store} st counts h = record {
     low = omega arith;
     high = h;
     start = st;
     did = did-same (ap (λ (l : List Entry). firsts sameMatch (gathered (d + 1) l)) (sym (slice-empty (pool .used) (entries store u))))
-        (did-none f (wholeAt place (logOf store u)) d v u store st);
+        (did-none t f (wholeAt place (logOf store u)) d v u store st counts);
   }
 
   module _ {v₁ u₁ m v u : ℕ} {store₁ store : List ℕ} (n : NestDid t line sheet place (w .limit) g (pool .used) v₁ u₁ store₁ m v u store) (h : m < u₁) where
@@ -188,7 +193,7 @@ module _ {t line sheet starts store₀ : List ℕ} {place : Place} {w : Walker} 
     unfolding es₁
     next = firsts-next es₁ (d + 1) (pool .used) m (n .low) (omega (arith, long))
 
-    module _ (found : Inner) (inner : InnerOf (d + 1) (entries store u) (pool .used) m found) where
+    module _ (found : Inner) (inner : InnerOf (d + 1) (entries store u) (pool .used) m (decode (getD store m 0)) found) where
       pub nest-skip : found ≡ Nothing → NestDid t line sheet place (w .limit) g (pool .used) v₁ u₁ store₁ (m + 1) v u store
       nest-skip e = record {
         low = omega (arith, n .low);
@@ -197,33 +202,49 @@ module _ {t line sheet starts store₀ : List ℕ} {place : Place} {w : Walker} 
         did = did-same (sym (next ∙ ap (λ (l : List Match). innersOf store₁ u₁ d (pool .used) m ++ l) (sym fresh-is ∙ nothing found inner e) ∙ append-nil (innersOf store₁ u₁ d (pool .used) m))) (n .did);
       }
         where
-          nothing : (found : Inner) → InnerOf (d + 1) (entries store u) (pool .used) m found → found ≡ Nothing
+          nothing : (found : Inner) → InnerOf (d + 1) (entries store u) (pool .used) m (decode (getD store m 0)) found → found ≡ Nothing
               → freshOf (d + 1) (gathered (d + 1) (made (entries store u) (pool .used) m)) (getD (entries store u) m (argued none)) ≡ []
           nothing _ (no-match q) e = q
-          nothing _ (new-match {e = c} b q) e = let z : _≡_ {A = ℕ} 0 1 = cc in absurd (omega arith)
+          nothing _ (new-match {e = c} b _ q) e = let z : _≡_ {A = ℕ} 0 1 = cc in absurd (omega arith)
 
-      module _ (e : ℕ) (is : found ≡ Ends e) where
+      module _ (e k : ℕ) (is : found ≡ Ends e k) where
         pub nest-small : e < 128
         nest-small = go found inner is
           where
-            go : (found : Inner) → InnerOf (d + 1) (entries store u) (pool .used) m found → found ≡ Ends e → e < 128
-            go _ (new-match {e = c} b q) i = let z : c ≡ e = cc in omega arith
+            go : (found : Inner) → InnerOf (d + 1) (entries store u) (pool .used) m (decode (getD store m 0)) found → found ≡ Ends e k → e < 128
+            go _ (new-match {e = c} b _ q) i = let z : c ≡ e = cc in omega arith
             go _ (no-match q) i = let z : _≡_ {A = ℕ} 0 1 = cc in absurd (omega arith)
+
+        -- its record has its own count
+        pub nest-counts : k ≡ exactCount (sceneOf t [] []) (treeAt (entries store u) m)
+        nest-counts = go found inner is
+          where
+            go : (found : Inner) → InnerOf (d + 1) (entries store u) (pool .used) m (decode (getD store m 0)) found → found ≡ Ends e k → k ≡ exactCount (sceneOf t [] []) (treeAt (entries store u) m)
+            go _ (new-match {e = c} b q _) i =
+                let z : countIn (decode (getD store m 0)) ≡ k = cc in
+                sym z ∙ count-read (sceneOf t [] []) store u (n .did .stored) (n .did .counted) m (omega (arith, nest-used)) refl (λ p. omega (arith, q))
+            go _ (no-match q) i = let z : _≡_ {A = ℕ} 0 1 = cc in absurd (omega arith)
+
+        -- the same in the store before the loop
+        pub nest-counted : k ≡ exactCount (sceneOf t [] []) (treeAt (entries store₁ u₁) m)
+        unfolding es₁
+        nest-counted = nest-counts ∙ ap (exactCount (sceneOf t [] [])) tree-is
 
         new-here : freshOf (d + 1) (gathered (d + 1) (made es₁ (pool .used) m)) (getD es₁ m (argued none)) ≡ (treeAt es₁ m, e) ∷ []
         new-here = sym fresh-is ∙ go found inner is
           where
-            go : (found : Inner) → InnerOf (d + 1) (entries store u) (pool .used) m found → found ≡ Ends e
+            go : (found : Inner) → InnerOf (d + 1) (entries store u) (pool .used) m (decode (getD store m 0)) found → found ≡ Ends e k
                 → freshOf (d + 1) (gathered (d + 1) (made (entries store u) (pool .used) m)) (getD (entries store u) m (argued none)) ≡ (treeAt es₁ m, e) ∷ []
-            go _ (new-match {e = c} b q) i = let z : c ≡ e = cc in q ∙ ap (λ (t : Tree). (t, c) ∷ []) tree-is ∙ ap (λ (n : ℕ). (treeAt es₁ m, n) ∷ []) z
+            go _ (new-match {e = c} b _ q) i = let z : c ≡ e = cc in q ∙ ap (λ (t : Tree). (t, c) ∷ []) tree-is ∙ ap (λ (n : ℕ). (treeAt es₁ m, n) ∷ []) z
             go _ (no-match q) i = let z : _≡_ {A = ℕ} 0 1 = cc in absurd (omega arith)
 
-        pub nest-fits : {st : ℕ} → st ≡ min e g → ArgumentFits (nestArg st e m) (place .args)
-        nest-fits st-is = record {
+        pub nest-fits : {st c : ℕ} → st ≡ min e g → c ≤ e → ArgumentFits (nestArg st e m) (place .args) c
+        nest-fits st-is few-counts = record {
           start = omega (arith, nest-small, st-is);
           end = nest-small;
           before = omega (arith, ready .last, ready .stored .room);
           inner = omega (arith, n .start .room);
+          counts = omega (arith, nest-small);
         }
 
         abbrev p : Plan (List Found)
@@ -251,23 +272,39 @@ module _ {t line sheet starts store₀ : List ℕ} {place : Place} {w : Walker} 
         stops : {a b : ℕ} → run (f (treeAt es₁ m, e)) v u ≡ stop a b → run (each (innersOf store₁ u₁ d (pool .used) u₁) f) v₁ u₁ ≡ stop a b
         stops q =
             let (post, i) = split in
-            ap (λ (l : List Match). run (each l f) v₁ u₁) i ∙ did-stop f (wholeAt place (logOf store₁ u₁)) d (n .did) (treeAt es₁ m, e) post q
+            ap (λ (l : List Match). run (each l f) v₁ u₁) i ∙ did-stop t f (wholeAt place (logOf store₁ u₁)) d (n .did) (treeAt es₁ m, e) post q
 
         pub nest-full : u ≡ 4096 → run (each (innersOf store₁ u₁ d (pool .used) u₁) f) v₁ u₁ ≡ stop 8 v
         nest-full q = stops (ap (λ (k : Plan (List Found)). run k v u) (same-turn refl) ∙ turn-full (entries store u) (nestArg (min e g) e m) p v u q)
 
-        module _ (st : ℕ) (st-is : st ≡ min e g) (store′ : List ℕ) (more : Pool) (added : Added u store store′ (Kept (nestArg st e m) (place .args)) more) where
+        module _ (st : ℕ) (st-is : st ≡ min e g) (c : ℕ) (c-is : c ≡ place .count + k) (store′ : List ℕ) (more : Pool) (added : Added u store store′ (Kept (nestArg st e m) (place .args) c) more) where
           inner-before : m < u
           inner-before = omega (arith, nest-used)
 
-          pub nest-ready : {next : Place} → next ≡ afterArg place (more .used) → e ≤ w .limit → length store′ ≡ 4096 → {moved : Walker} → moved ≡ movedTo line e (held line w) → Ready t line sheet starts store′ next moved more
-          nest-ready next b z =
-              ready-after ready store′ more e next b
-              (turn-stored place (nestArg st e m) p v u store store′ more (n .did .stored) (omega (arith, few, nest-used)) inner-before added z)
+          module _ {group : ℕ} (standing : Stands t store₀ (pool .used) place (place .count) (fromNest t group place) (w .cursor)) (new : List Record) (since : logOf store₁ u₁ ≡ logOf store₀ (pool .used) ++ new) where
+            -- the match as it stands in the store of this turn
+            here : Stands t store u place (place .count) (fromNest t group place) (w .cursor)
+            here = stands-later (n .did .made .new) (n .did .made .grown) (stands-later new since standing)
 
-          module _ {next-place : Place} (next-is : next-place ≡ afterArg place (more .used)) (b : e ≤ w .limit) {moved : Walker} (moved-is : moved ≡ movedTo line e (held line w)) {r : Walked} {store″ : List ℕ}
-              (got : Left (ran (rulePlan t line sheet (next-place .depth) (next-place .at) (next-place .end) (moved .limit) (moved .cursor)) v more) next-place (logOf store′ (more .used)) store″ r) where
-            from-there : Left (ran p v more) (afterArg place (more .used)) (logOf store′ (more .used)) store″ r
+            sum : c ≡ place .count + addsOf (sceneOf t [] []) (entries store u) (Nested m)
+            sum = c-is ∙ ap (λ (b : ℕ). place .count + b) nest-counts
+
+            pub nest-stands : {next : Place} → next ≡ afterArg place (more .used) c → e ≤ w .limit → c ≤ e → {moved : Walker} → moved ≡ movedTo line e (held line w)
+                → Stands t store′ (more .used) next (next .count) (toCome t next) (moved .cursor)
+            nest-stands next-is b few-counts moved-is =
+                stands-after ready next-is b moved-is (kept-stands refl (n .did .stored) (n .did .counted) here (nestArg st e m) added sum few-counts)
+
+            pub nest-kept : Counted (sceneOf t [] []) (logOf store′ (more .used))
+            nest-kept = kept-counted refl (n .did .stored) (n .did .counted) here (nestArg st e m) added sum
+
+          pub nest-ready : {next : Place} → next ≡ afterArg place (more .used) c → e ≤ w .limit → length store′ ≡ 4096 → Counted (sceneOf t [] []) (logOf store′ (more .used)) → {moved : Walker} → moved ≡ movedTo line e (held line w) → Ready t line sheet starts store′ next moved more
+          nest-ready next b z counts =
+              ready-after ready store′ more e next b
+              (turn-stored place (nestArg st e m) c p v u store store′ more (n .did .stored) (omega (arith, few, nest-used)) inner-before added z) counts
+
+          module _ {next-place : Place} (next-is : next-place ≡ afterArg place (more .used) c) (b : e ≤ w .limit) {moved : Walker} (moved-is : moved ≡ movedTo line e (held line w)) {r : Walked} {store″ : List ℕ}
+              (got : Left t (ran (rulePlan t line sheet (next-place .depth) (next-place .at) (next-place .end) (moved .limit) (moved .cursor)) v more) next-place (logOf store′ (more .used)) store″ r) where
+            from-there : Left t (ran p v more) (afterArg place (more .used) c) (logOf store′ (more .used)) store″ r
             from-there = left-after-arg t line sheet place more (w .limit) e v next-is (moved-is ∙ moved-there ready e b) got
 
             pub nest-again : {l : ℕ} {q : Pool} → r ≡ Done l q → length store″ ≡ 4096 → NestDid t line sheet place (w .limit) g (pool .used) v₁ u₁ store₁ (m + 1) l (q .used) store″
@@ -276,11 +313,11 @@ module _ {t line sheet starts store₀ : List ℕ} {place : Place} {w : Walker} 
               high = omega arith;
               start = n .start;
               did = did-same (sym (next ∙ ap (λ (l : List Match). innersOf store₁ u₁ d (pool .used) m ++ l) new-here))
-                  (turned f place (n .did) (n .start) few (nestArg st e m) p (treeAt es₁ m, e) (same-turn st-is) store′ more inner-before added from-there x z);
+                  (turned f place (n .did) (n .start) few (nestArg st e m) c p (treeAt es₁ m, e) (same-turn st-is) store′ more inner-before added from-there x z);
             }
 
             pub nest-halt : {why : Refusal} {l : ℕ} → r ≡ Stopped why l → run (each (innersOf store₁ u₁ d (pool .used) u₁) f) v₁ u₁ ≡ stop (numberOf why) l
-            nest-halt x = stops (turn-refused f place (n .did) (n .start) few (nestArg st e m) p (treeAt es₁ m, e) (same-turn st-is) store′ more inner-before added from-there x)
+            nest-halt x = stops (turn-refused f place (n .did) (n .start) few (nestArg st e m) c p (treeAt es₁ m, e) (same-turn st-is) store′ more inner-before added from-there x)
 
 -- ---- the whole step
 
@@ -288,7 +325,7 @@ module _ {t line sheet starts store₀ : List ℕ} {place : Place} {w : Walker} 
   abbrev planned : Outcome (List Found)
   planned = ran (nestedPlan t line sheet (place .depth) group (place .at) (place .end) (w .limit) (w .cursor)) visits pool
 
-  pub nested-deep : 16 ≤ place .depth → (store : List ℕ) → Left planned place (logOf store₀ (pool .used)) store (Stopped Deep visits)
+  pub nested-deep : 16 ≤ place .depth → (store : List ℕ) → Left t planned place (logOf store₀ (pool .used)) store (Stopped Deep visits)
   unfolding nestedPlan under run each limits _then_
   nested-deep h store =
       let e : depths - place .depth ≡ 0 = omega arith in
@@ -314,12 +351,12 @@ module _ {t line sheet starts store₀ : List ℕ} {place : Place} {w : Walker} 
 
     -- a pass was refused
     pub nested-stop : (store : List ℕ) {why : Refusal} {l : ℕ} → run (each (limitsIn ls) (underLimit t line sheet k group (w .cursor))) visits (pool .used) ≡ stop (numberOf why) l
-        → Left planned place (logOf store₀ (pool .used)) store (Stopped why l)
+        → Left t planned place (logOf store₀ (pool .used)) store (Stopped why l)
     nested-stop store e =
         halted (plan-is ∙ then-stop goes-on passes visits (pool .used) (sym (ap (λ o. o visits (pool .used)) (limits-listed ready group fits deep begin count begin-is count-is ls ls-is)) ∙ e))
 
     module _ {i v₁ u₁ : ℕ} {store₁ : List ℕ} (first-loop : LimitsDid t line sheet k group (w .cursor) ls visits (pool .used) store₀ i v₁ u₁ store₁) (over : ls .count ≤ i) where
-      all : Did (underLimit t line sheet k group (w .cursor)) itself (k + 1) (limitsIn ls) visits (pool .used) store₀ v₁ u₁ store₁
+      all : Did t (underLimit t line sheet k group (w .cursor)) itself (k + 1) (limitsIn ls) visits (pool .used) store₀ v₁ u₁ store₁
       all = index-end (underLimit t line sheet k group (w .cursor)) itself (k + 1) (limitsIn ls) i first-loop (omega (arith, limit-long ready group fits deep begin count begin-is count-is ls ls-is))
 
       passed : run passes visits (pool .used) ≡ done v₁ u₁ (all .gave)
@@ -339,33 +376,42 @@ module _ {t line sheet starts store₀ : List ℕ} {place : Place} {w : Walker} 
           there : entries store₁ u₁ ≡ meanings (logOf store₀ (pool .used)) ++ meaning (meanings (logOf store₀ (pool .used))) (all .made .new)
           there = ap meanings (all .made .grown) ∙ meanings-more (logOf store₀ (pool .used)) (all .made .new)
 
-      -- an inner match ends within the limit
-      pub nested-within : {i : Match} → List·Memᴰ i (innersOf store₁ u₁ k (pool .used) u₁) → i .1 ≤ w .limit
+      -- the log has only grown
+      pub nested-since : (new : List Record) × (logOf store₁ u₁ ≡ logOf store₀ (pool .used) ++ new)
+      nested-since = (all .made .new, all .made .grown)
+
+      -- an inner match ends within the limit, and has passed a byte for each that it counts
+      pub nested-within : {i : Match} → List·Memᴰ i (innersOf store₁ u₁ k (pool .used) u₁) → (i .1 ≤ w .limit) × (exactCount (sceneOf t [] []) (i .0) + w .cursor ≤ i .1)
       unfolding sceneOf
       nested-within {i} j =
           let law = lawful t line sheet (ready .extents) in
           let (m, jm, ri, h, n) = each-source (underLimit t line sheet k group (w .cursor)) (limits (sceneOf t line sheet) (w .limit) (w .cursor) (partsBetween t (place .at) (place .end)))
           (run-done passes visits (pool .used) passed .0) (firsts-mem sameMatch (all .gave) (rw innersAll at j)) in
-          let (_, _, _, _, u) = under-lists (sceneOf t line sheet) law (depths - k) .sound group m (w .cursor) h n in
+          let (_, _, q, _, u) = under-lists (sceneOf t line sheet) law (depths - k) .sound group m (w .cursor) h n in
           let (a, b) = limits-within (sceneOf t line sheet) law (w .limit) (w .cursor) (partsBetween t (place .at) (place .end)) (ready .cursor) m jm in
-          omega (arith, from-within (sceneOf t line sheet) law a (in-line m b) u)
+          (omega (arith, from-within (sceneOf t line sheet) law a (in-line m b) u), omega (arith, from-few (sceneOf t line sheet) law a (in-line m b) u, ap (exactCount (sceneOf t line sheet)) q, count-free t line sheet (i .0)))
         where
           in-line : (m : ℕ) → m ≤ w .limit → m ≤ length (sceneOf t line sheet .line)
           in-line m h = omega (arith, ready .limit)
+
+      -- so the count with it is at most where it ended
+      pub nested-few : {u : Tree} {e j : ℕ} → List·Memᴰ (u, e) (innersOf store₁ u₁ k (pool .used) u₁) → j ≡ exactCount (sceneOf t [] []) u
+          → place .count ≤ w .cursor → (place .count + j ≤ e) × (e ≤ 120)
+      nested-few i counts small = let (a, b) = nested-within i in (omega arith, omega (arith, ready .limit, ready .short))
 
       onward : planned ≡ run (each (innersOf store₁ u₁ k (pool .used) u₁) (nestFrom t line sheet place (w .limit) g)) v₁ u₁
       onward = plan-is ∙ then-done goes-on passes visits (pool .used) passed ∙ ap (λ (l : List Match). run (each l (nestFrom t line sheet place (w .limit) g)) v₁ u₁) (sym innersAll)
 
       -- a turn was refused
       pub nested-halt : (store : List ℕ) {why : Refusal} {l : ℕ} → run (each (innersOf store₁ u₁ k (pool .used) u₁) (nestFrom t line sheet place (w .limit) g)) v₁ u₁ ≡ stop (numberOf why) l
-          → Left planned place (logOf store₀ (pool .used)) store (Stopped why l)
+          → Left t planned place (logOf store₀ (pool .used)) store (Stopped why l)
       nested-halt store e = halted (onward ∙ e)
 
       pub nested-done : {m v : ℕ} {store : List ℕ} (has : Pool) → NestDid t line sheet place (w .limit) g (pool .used) v₁ u₁ store₁ m v (has .used) store → u₁ ≤ m
-          → Left planned place (logOf store₀ (pool .used)) store (Done v has)
+          → Left t planned place (logOf store₀ (pool .used)) store (Done v has)
       nested-done {m} {v} {store} has n h =
           let q : m ≡ u₁ = omega (arith, n .high) in
-          let last : Did (nestFrom t line sheet place (w .limit) g) (wholeAt place (logOf store₁ u₁)) k (innersOf store₁ u₁ k (pool .used) u₁) v₁ u₁ store₁ v (has .used) store
+          let last : Did t (nestFrom t line sheet place (w .limit) g) (wholeAt place (logOf store₁ u₁)) k (innersOf store₁ u₁ k (pool .used) u₁) v₁ u₁ store₁ v (has .used) store
           = did-same (ap (innersOf store₁ u₁ k (pool .used)) q) (n .did) in
           went
           (record {
@@ -374,4 +420,5 @@ module _ {t line sheet starts store₀ : List ℕ} {place : Place} {w : Walker} 
             made = subst (λ (f′ : Found → Match). Made k (logOf store₀ (pool .used)) (logOf store (has .used)) (map f′ (last .gave)))
                 (whole-stays place (all .made) (omega (arith, ready .last, log-length store₀ (pool .used) (omega (arith, ready .stored .sized, ready .stored .room)))))
                 (made-join (made-deeper (all .made)) (last .made));
+            counted = last .counted;
           })

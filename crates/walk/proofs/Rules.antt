@@ -29,11 +29,13 @@ use Rattle.lookahead.proofs.Choices.{limits-few, limits-within, sheet-free-limi
 use Rattle.pool.specs.declared.Pool.{Pool}
 use Rattle.pool.specs.Log.{logOf}
 use Rattle.pool.specs.Meaning.{chainAt, Stored}
+use Rattle.pool.specs.Counted.{first, Counted}
+use Rattle.pool.proofs.Passing.{so-start}
 use Rattle.walk.specs.declared.Place.{Place}
 use Rattle.walk.specs.declared.Walked.{Walked}
 use Rattle.walk.specs.declared.Walked.the-variants.{Done, Stopped}
 use Rattle.walk.specs.declared.Refusal.{Refusal}
-use Rattle.walk.specs.Met.{finishes, partsPlan, rulePlan, deeper, ran, Ready, Made, numberOf, Left}
+use Rattle.walk.specs.Met.{finishes, partsPlan, rulePlan, deeper, ran, Ready, toCome, Stands, Made, numberOf, Left}
 use Rattle.walk.proofs.Outcomes.{mapped-done, mapped-stop}
 use Rattle.walk.proofs.Held.{held-at, held-is, member-at}
 use Rattle.walk.proofs.Loops.{Did, did-none, index-end, index-more, index-stop}
@@ -51,7 +53,7 @@ ruleFrom t line sheet depth group w k =
 -- the loop over rules, and the loop over limits
 abbrev pub RulesDid : List ℕ → List ℕ → List ℕ → ℕ → ℕ → Walker → ℕ → ℕ → ℕ → List ℕ → ℕ → ℕ → ℕ → List ℕ → Type 0
 RulesDid t line sheet depth group w n v₀ u₀ store₀ i v u store =
-    Did (ruleFrom t line sheet depth group w) itself (depth + 1) (take i (range 0 n)) v₀ u₀ store₀ v u store
+    Did t (ruleFrom t line sheet depth group w) itself (depth + 1) (take i (range 0 n)) v₀ u₀ store₀ v u store
 
 abbrev pub limitsIn : Limits → List ℕ
 limitsIn ls = take (ls .count) (ls .places)
@@ -61,7 +63,7 @@ underLimit t line sheet depth group c m = deeper t line sheet depth group m c
 
 abbrev pub LimitsDid : List ℕ → List ℕ → List ℕ → ℕ → ℕ → ℕ → Limits → ℕ → ℕ → List ℕ → ℕ → ℕ → ℕ → List ℕ → Type 0
 LimitsDid t line sheet depth group c ls v₀ u₀ store₀ i v u store =
-    Did (underLimit t line sheet depth group c) itself (depth + 1) (take i (limitsIn ls)) v₀ u₀ store₀ v u store
+    Did t (underLimit t line sheet depth group c) itself (depth + 1) (take i (limitsIn ls)) v₀ u₀ store₀ v u store
 
 finishes-inner : (n d : ℕ) → finishes n (d + 1) ≡ λ e. true
 unfolding finishes
@@ -103,10 +105,10 @@ module _ {t line sheet starts store₀ : List ℕ} {place : Place} {w : Walker} 
       record-below = omega (arith, begins, many, begins-within t (group + 1), begins-order t line sheet (ready .table) group)
 
       abbrev there : Place
-      there = record { set = group; rule = k; at = parts .at; end = parts .end; depth = d + 1; args = 0 }
+      there = record { set = group; rule = k; at = parts .at; end = parts .end; depth = d + 1; args = 0; count = 0 }
 
-      pub rule-ready : (store : List ℕ) (has : Pool) → Stored store (has .used) → Ready t line sheet starts store there inner has
-      rule-ready store has st =
+      pub rule-ready : (store : List ℕ) (has : Pool) → Stored store (has .used) → Counted (sceneOf t [] []) (logOf store (has .used)) → Ready t line sheet starts store there inner has
+      rule-ready store has st counts =
           let sp = span-within t line sheet (ready .table) (begin + k) record-below parts span in
           record {
             table = ready .table;
@@ -114,6 +116,7 @@ module _ {t line sheet starts store₀ : List ℕ} {place : Place} {w : Walker} 
             short = ready .short;
             begins = ready .begins;
             stored = st;
+            counted = counts;
             sets = fits;
             rules = omega (arith, n-is, starts-few);
             parts = sp .from;
@@ -131,6 +134,11 @@ module _ {t line sheet starts store₀ : List ℕ} {place : Place} {w : Walker} 
           parts-whole t (begin + k) parts span ∙ ap (λ (b : ℕ). ruleParts t (b + k)) begins
           ∙ sym (rule-parts t line sheet (ready .table) group k (omega (arith, many)))
 
+      -- a rule begins with no argument, and no count
+      pub rule-stands : (store : List ℕ) (u : ℕ) → Stands t store u there 0 (toCome t there) (inner .cursor)
+      unfolding chainAt sceneOf
+      rule-stands store u = record { own = first; so-far = so-start (sceneOf t [] []) (sym parts-are); small = omega arith }
+
       plan-is : rulePlan t line sheet (d + 1) (parts .at) (parts .end) (inner .limit) (inner .cursor)
           ≡ walk s (under s (depths - (d + 1))) (λ e. true) (s .parts group k) (inner .limit) (inner .cursor)
       unfolding rulePlan partsPlan
@@ -140,7 +148,7 @@ module _ {t line sheet starts store₀ : List ℕ} {place : Place} {w : Walker} 
 
       module _ {v₁ u₁ v u : ℕ} {store₁ store : List ℕ} (did : RulesDid t line sheet d group inner n v₁ u₁ store₁ k v u store)
           {r : Walked} {has : Pool} (used : has .used ≡ u) {store″ : List ℕ}
-          (m : Left (ran (rulePlan t line sheet (d + 1) (parts .at) (parts .end) (inner .limit) (inner .cursor)) v has) there (logOf store (has .used)) store″ r) where
+          (m : Left t (ran (rulePlan t line sheet (d + 1) (parts .at) (parts .end) (inner .limit) (inner .cursor)) v has) there (logOf store (has .used)) store″ r) where
         next-rule : k ≡ getD (range 0 n) k 0
         next-rule = sym (range-at 0 n k 0 h ∙ omega arith)
 
@@ -159,7 +167,7 @@ module _ {t line sheet starts store₀ : List ℕ} {place : Place} {w : Walker} 
             (mapped-done (named group k) (walk s (under s (depths - (d + 1))) (λ e. true) (s .parts group k) (inner .limit) (inner .cursor)) v u (sym ran-is ∙ x .done-with))
             (subst (λ (n : ℕ). Made (d + 1) (logOf store n) (logOf store″ (q .used)) (map itself (map (named group k) (x .founds)))) used
             (subst (Made (d + 1) (logOf store (has .used)) (logOf store″ (q .used))) (sym (map-id (map (named group k) (x .founds)))) (x .made)))
-            z
+            z (x .counted)
 
         pub rules-stop : {why : Refusal} {l : ℕ} → r ≡ Stopped why l → run (each (range 0 n) (ruleFrom t line sheet d group inner)) v₁ u₁ ≡ stop (numberOf why) l
         rules-stop e =
@@ -228,7 +236,7 @@ module _ {t line sheet starts store₀ : List ℕ} {place : Place} {w : Walker} 
             limits-again {k} {v′} {u′} {store′} rules z =
                 let all = index-end (ruleFrom t line sheet d group inner) itself (d + 1) (range 0 n) k rules (omega (arith, range-length 0 n)) in
                 index-more (underLimit t line sheet d group (w .cursor)) itself (d + 1) (limitsIn ls) i did (omega (arith, limit-long)) m 0 next-limit v′ u′ store′ (all .gave)
-                (ap (λ (p : Plan (List Match)). run p v u) whole-is ∙ all .done-with) (all .made) (rules .stored .sized)
+                (ap (λ (p : Plan (List Match)). run p v u) whole-is ∙ all .done-with) (all .made) (rules .stored .sized) (rules .counted)
 
             pub limits-stop : {a l : ℕ} → run (each (range 0 n) (ruleFrom t line sheet d group inner)) v u ≡ stop a l
                 → run (each (limitsIn ls) (underLimit t line sheet d group (w .cursor))) v₁ u₁ ≡ stop a l
@@ -239,8 +247,8 @@ module _ {t line sheet starts store₀ : List ℕ} {place : Place} {w : Walker} 
       pub limits-listed : run (each (limitsIn ls) (underLimit t line sheet d group (w .cursor))) ≡ run (each xs (underLimit t line sheet d group (w .cursor)))
       limits-listed = ap (λ (l : List ℕ). run (each l (underLimit t line sheet d group (w .cursor)))) places-are
 
-    pub rules-start : (inner : Walker) (v u : ℕ) (store : List ℕ) → Stored store u → RulesDid t line sheet d group inner n v u store 0 v u store
-    rules-start inner v u store st = did-none (ruleFrom t line sheet d group inner) itself (d + 1) v u store st
+    pub rules-start : (inner : Walker) (v u : ℕ) (store : List ℕ) → Stored store u → Counted (sceneOf t [] []) (logOf store u) → RulesDid t line sheet d group inner n v u store 0 v u store
+    rules-start inner v u store st counts = did-none t (ruleFrom t line sheet d group inner) itself (d + 1) v u store st counts
 
   pub limits-start : (ls : Limits) (v : ℕ) → LimitsDid t line sheet d group (w .cursor) ls v (pool .used) store₀ 0 v (pool .used) store₀
-  limits-start ls v = did-none (underLimit t line sheet d group (w .cursor)) itself (d + 1) v (pool .used) store₀ (ready .stored)
+  limits-start ls v = did-none t (underLimit t line sheet d group (w .cursor)) itself (d + 1) v (pool .used) store₀ (ready .stored) (ready .counted)

@@ -27,7 +27,7 @@ same-refusal Full Spent e = absurd (omega arith)
 same-refusal Full Deep e = absurd (omega arith)
 same-refusal Full Full e = refl
 
-same-left : {o : Outcome (List Found)} {place : Place} {log : List Record} {a b : List ℕ} {r s : Walked} → Left o place log a r → Left o place log b s → r ≡ s
+same-left : {t : List ℕ} {o : Outcome (List Found)} {place : Place} {log : List Record} {a b : List ℕ} {r s : Walked} → Left t o place log a r → Left t o place log b s → r ≡ s
 same-left (went {left = l} {pool = p} x) (went {left = m} {pool = q} y) =
     let e = sym (x .done-with) ∙ y .done-with in
     let i : l ≡ m = cc in

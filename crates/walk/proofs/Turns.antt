@@ -5,7 +5,6 @@ use mathlib.Core.List.{List, [], _∷_, _++_, map}
 use Prim.Native.Nat.{ℕ, suc, _+_, _≤_}
 use native.Mathlib.Omega.{arith}
 use lib.ListN.{length}
-use lib.Seq.{getD-at}
 use Rattle.readings.specs.Tree.{node, Args, expr, nest}
 use Rattle.readings.specs.Plan.{Plan, keep, done, stop, room, run, mapped}
 use Rattle.readings.specs.Walk.{Found}
@@ -18,7 +17,7 @@ use Rattle.pool.specs.declared.Record.the-variants.{Kept}
 use Rattle.pool.specs.Log.{logOf, Added}
 use Rattle.pool.specs.Meaning.{Chain, none, Entry, argued, unwind, chainIn, chainAt, treeAt, linked, entryOf, meaning, meanings, InnerEarlier, Stored, entries}
 use Rattle.pool.proofs.Words.{log-length}
-use Rattle.pool.proofs.Meanings.{meanings-more, meaning-length}
+use Rattle.pool.proofs.Counts.{chain-kept}
 use Rattle.walk.specs.declared.Place.{Place}
 use Rattle.walk.specs.Met.{ran, Made, wholeAt, Reached, afterArg}
 use Rattle.walk.proofs.Outcomes.{keep-full, keep-more, mapped-done, mapped-stop}
@@ -47,8 +46,8 @@ turn es a p = keep (mapped (onto es a) p)
 pub turn-full : (es : List Entry) (a : Argument) (p : Plan (List Found)) (left u : ℕ) → u ≡ 4096 → run (turn es a p) left u ≡ stop 8 left
 turn-full es a p left u e = keep-full (mapped (onto es a) p) left u e
 
-module _ (place : Place) (arg : Argument) (p : Plan (List Found)) (left u : ℕ) (store store′ : List ℕ) (more : Pool)
-    (stored : Stored store u) (few : place .args ≤ u) (inner : InnerEarlier u (arg .kind)) (added : Added u store store′ (Kept arg (place .args)) more) where
+module _ (place : Place) (arg : Argument) (n : ℕ) (p : Plan (List Found)) (left u : ℕ) (store store′ : List ℕ) (more : Pool)
+    (stored : Stored store u) (few : place .args ≤ u) (inner : InnerEarlier u (arg .kind)) (added : Added u store store′ (Kept arg (place .args) n) more) where
   abbrev log : List Record
   log = logOf store u
 
@@ -61,11 +60,11 @@ module _ (place : Place) (arg : Argument) (p : Plan (List Found)) (left u : ℕ)
   many : length log ≡ u
   many = log-length store u (omega (arith, stored .sized, stored .room))
 
-  grown : log′ ≡ log ++ (Kept arg (place .args) ∷ [])
+  grown : log′ ≡ log ++ (Kept arg (place .args) n ∷ [])
   grown = ap (logOf store′) (added .counted) ∙ added .grown
 
   kept : (d : ℕ) → Made d log log′ []
-  kept d = made-argument d log log′ (stored .earlier) arg (place .args) grown (omega (arith, many, few), subst (λ (n : ℕ). InnerEarlier n (arg .kind)) (sym many) inner)
+  kept d = made-argument d log log′ (stored .earlier) arg (place .args) n grown (omega (arith, many, few), subst (λ (n : ℕ). InnerEarlier n (arg .kind)) (sym many) inner)
 
   pub turn-stored : length store′ ≡ 4096 → Stored store′ (more .used)
   turn-stored s = record {
@@ -74,28 +73,26 @@ module _ (place : Place) (arg : Argument) (p : Plan (List Found)) (left u : ℕ)
     earlier = kept 0 .earlier;
   }
 
-  chain : chainAt (meanings log′) (more .used) ≡ linked es (chainAt es (place .args)) (arg .start) (arg .end) (arg .kind)
-  unfolding chainAt meaning
-  chain =
-      ap (λ (l : List Record). chainAt (meanings l) (more .used)) grown ∙ ap (λ (l : List Entry). chainAt l (more .used)) (meanings-more log (Kept arg (place .args) ∷ []))
-      ∙ ap (chainAt (es ++ (entryOf es (Kept arg (place .args)) ∷ []))) number
-      ∙ ap chainIn (getD-at es (entryOf es (Kept arg (place .args))) [] (argued none) (length es) refl)
+  pub turn-chain : chainAt (meanings log′) (more .used) ≡ linked es (chainAt es (place .args)) (arg .start) (arg .end) (arg .kind)
+  turn-chain =
+      ap (λ (l : List Record). chainAt (meanings l) (more .used)) grown ∙ ap (chainAt (meanings (log ++ (Kept arg (place .args) n ∷ [])))) number
+      ∙ chain-kept log arg (place .args) n
     where
-      number : more .used ≡ suc (length es)
-      number = omega (arith, added .counted, many, meaning-length [] log)
+      number : more .used ≡ suc (length log)
+      number = omega (arith, added .counted, many)
 
-  whole-is : (x : Found) → wholeAt (afterArg place (more .used)) log′ x ≡ wholeAt place log (onto es arg x)
-  whole-is x = ap (λ (c : Chain). (node (place .set) (place .rule) (unwind c (x .0)), x .1)) chain
+  whole-is : (x : Found) → wholeAt (afterArg place (more .used) n) log′ x ≡ wholeAt place log (onto es arg x)
+  whole-is x = ap (λ (c : Chain). (node (place .set) (place .rule) (unwind c (x .0)), x .1)) turn-chain
       ∙ ap (λ (a : Args). (node (place .set) (place .rule) a, x .1)) (unwound es (chainAt es (place .args)) (arg .start) (arg .end) (arg .kind) (x .0))
 
   pub turn-stop : {n l : ℕ} → ran p left more ≡ stop n l → run (turn es arg p) left u ≡ stop n l
   turn-stop e = keep-more (mapped (onto es arg) p) left u (added .room) ∙ ap (run (mapped (onto es arg) p) left) (sym (added .counted)) ∙ mapped-stop (onto es arg) p left (more .used) e
 
-  module _ {l : ℕ} {q : Pool} {store″ : List ℕ} (r : Reached l q (ran p left more) (afterArg place (more .used)) log′ store″) where
+  module _ {t : List ℕ} {l : ℕ} {q : Pool} {store″ : List ℕ} (r : Reached t l q (ran p left more) (afterArg place (more .used) n) log′ store″) where
     pub turn-done : run (turn es arg p) left u ≡ done l (q .used) (map (onto es arg) (r .founds))
     turn-done = keep-more (mapped (onto es arg) p) left u (added .room) ∙ ap (run (mapped (onto es arg) p) left) (sym (added .counted)) ∙ mapped-done (onto es arg) p left (more .used) (r .done-with)
 
     pub turn-made : Made (place .depth) log (logOf store″ (q .used)) (map (wholeAt place log) (map (onto es arg) (r .founds)))
     turn-made =
-        subst (Made (place .depth) log (logOf store″ (q .used))) (map-map (wholeAt place log) (onto es arg) (wholeAt (afterArg place (more .used)) log′) whole-is (r .founds))
+        subst (Made (place .depth) log (logOf store″ (q .used))) (map-map (wholeAt place log) (onto es arg) (wholeAt (afterArg place (more .used) n) log′) whole-is (r .founds))
         (made-join (kept (place .depth)) (r .made))

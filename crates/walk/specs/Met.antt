@@ -12,15 +12,18 @@ use Rattle.syntax.specs.declared.walker.Walker.{Walker}
 use Rattle.defs.specs.Table.{tableFits, partsFrom, partsBetween}
 use Rattle.defs.specs.Ruledef.{startsOf}
 use Rattle.defs.specs.declared.ruledef.Part.{Part}
+use Rattle.defs.specs.declared.ruledef.Part.the-variants.{Expression, Nested}
 use Rattle.extents.specs.Sheet.{sheetFits}
 use Rattle.readings.specs.Tree.{node, end}
 use Rattle.readings.specs.Scene.{Scene, sceneOf}
+use Rattle.readings.specs.Answer.{exactCount}
 use Rattle.readings.specs.Plan.{Plan, give, keep, Outcome, done, stop, run, _then_, each, when, mapped}
 use Rattle.readings.specs.Walk.{Found, Match, Below, under, depths, walk, ends, limits, firsts, anySame, sameMatch, addExpr, addNest}
 use Rattle.pool.specs.declared.Pool.{Pool}
 use Rattle.pool.specs.declared.Record.{Record}
-use Rattle.pool.specs.Log.{logOf}
-use Rattle.pool.specs.Meaning.{Chain, none, Entry, argued, completed, treeAt, unwind, chainAt, meaning, meanings, gathered, Earlier, Stored}
+use Rattle.pool.specs.Log.{logOf, depthIn, countIn}
+use Rattle.pool.specs.Meaning.{Chain, none, Entry, argued, completed, treeAt, unwind, chainAt, meaning, meanings, gathered, Earlier, Stored, entries}
+use Rattle.pool.specs.Counted.{CountedTo, Counted, SoFar}
 use Rattle.walk.specs.declared.Place.{Place}
 use Rattle.walk.specs.declared.Inner.{Inner}
 use Rattle.walk.specs.declared.Inner.the-variants.{Ends, Nothing}
@@ -84,6 +87,7 @@ pub record Ready (t line sheet starts store : List ℕ) (place : Place) (w : Wal
   pub short : length line ≤ 120
   pub begins : starts ≡ startsOf t
   pub stored : Stored store (pool .used)
+  pub counted : Counted (sceneOf t [] []) (logOf store (pool .used))
   pub sets : place .set < 32
   pub rules : place .rule < 512
   pub parts : partsFrom t ≤ place .at
@@ -94,6 +98,29 @@ pub record Ready (t line sheet starts store : List ℕ) (place : Place) (w : Wal
   pub cursor : w .cursor ≤ w .limit
   pub limit : w .limit ≤ length line
   pub top : place .depth ≡ 0 → w .limit ≡ length line
+
+-- the parts that a rule's match stands before: those still to come, a parameter and these, where its argument is sought
+abbrev pub toCome : List ℕ → Place → List Part
+toCome t place = partsBetween t (place .at) (place .end)
+
+abbrev pub fromExpr : List ℕ → Place → List Part
+fromExpr t place = Expression ∷ toCome t place
+
+abbrev pub fromNest : List ℕ → ℕ → Place → List Part
+fromNest t r place = Nested r ∷ toCome t place
+
+-- a rule's match so far, before these parts and at this cursor: its arguments' records have its counts, and it has this one. It
+-- has passed a byte for each exact part, so the count is at most the cursor.
+pub record Stands (t store : List ℕ) (used : ℕ) (place : Place) (count : ℕ) (rest : List Part) (cursor : ℕ) : Type 0 where
+  pub own : CountedTo (sceneOf t [] []) (place .set) (place .rule) (logOf store used) (place .args)
+  pub so-far : SoFar (sceneOf t [] []) (place .set) (place .rule) rest (chainAt (entries store used) (place .args)) count
+  pub small : count ≤ cursor
+
+-- the same at a pattern's end: the count is the match's own
+pub record Ended (t store : List ℕ) (used : ℕ) (place : Place) (count : ℕ) : Type 0 where
+  pub counted : Counted (sceneOf t [] []) (logOf store used)
+  pub own : CountedTo (sceneOf t [] []) (place .set) (place .rule) (logOf store used) (place .args)
+  pub whole : count ≡ exactCount (sceneOf t [] []) (node (place .set) (place .rule) (unwind (chainAt (entries store used) (place .args)) end))
 
 -- ---- what a walk gives
 
@@ -118,22 +145,23 @@ numberOf Spent = 6
 numberOf Deep = 7
 numberOf Full = 8
 
-pub record Reached (left : ℕ) (pool : Pool) (o : Outcome (List Found)) (place : Place) (log : List Record) (store′ : List ℕ) : Type 0 where
+pub record Reached (t : List ℕ) (left : ℕ) (pool : Pool) (o : Outcome (List Found)) (place : Place) (log : List Record) (store′ : List ℕ) : Type 0 where
   pub founds : List Found
   pub done-with : o ≡ done left (pool .used) founds
   pub made : Made (place .depth) log (logOf store′ (pool .used)) (map (wholeAt place log) founds)
+  pub counted : Counted (sceneOf t [] []) (logOf store′ (pool .used))
 
-pub data Left (o : Outcome (List Found)) (place : Place) (log : List Record) (store′ : List ℕ) : Walked → Type 0 where
-  went : {left : ℕ} {pool : Pool} → Reached left pool o place log store′ → Left o place log store′ (Done left pool)
-  halted : {why : Refusal} {left : ℕ} → o ≡ stop (numberOf why) left → Left o place log store′ (Stopped why left)
+pub data Left (t : List ℕ) (o : Outcome (List Found)) (place : Place) (log : List Record) (store′ : List ℕ) : Walked → Type 0 where
+  went : {left : ℕ} {pool : Pool} → Reached t left pool o place log store′ → Left t o place log store′ (Done left pool)
+  halted : {why : Refusal} {left : ℕ} → o ≡ stop (numberOf why) left → Left t o place log store′ (Stopped why left)
 
 -- ---- a place moved
 
-abbrev pub pastAt : Place → ℕ → Place
-pastAt p n = record { set = p .set; rule = p .rule; at = n; end = p .end; depth = p .depth; args = p .args }
+abbrev pub pastAt : Place → ℕ → ℕ → Place
+pastAt p n c = record { set = p .set; rule = p .rule; at = n; end = p .end; depth = p .depth; args = p .args; count = c }
 
-abbrev pub afterArg : Place → ℕ → Place
-afterArg p n = record { set = p .set; rule = p .rule; at = p .at; end = p .end; depth = p .depth; args = n }
+abbrev pub afterArg : Place → ℕ → ℕ → Place
+afterArg p n c = record { set = p .set; rule = p .rule; at = p .at; end = p .end; depth = p .depth; args = n; count = c }
 
 -- ---- inner matches
 
@@ -146,6 +174,8 @@ abbrev pub freshOf : ℕ → List Match → Entry → List Match
 freshOf d seen (argued c) = []
 freshOf d seen (completed n t e) = select (eqb n d && not (anySame sameMatch seen (t, e))) ((t, e) ∷ []) []
 
-pub data InnerOf (d : ℕ) (es : List Entry) (first m : ℕ) : Inner → Type 0 where
-  new-match : {e : ℕ} → e < 128 → freshOf d (gathered d (made es first m)) (getD es m (argued none)) ≡ (treeAt es m, e) ∷ [] → InnerOf d es first m (Ends e)
-  no-match : freshOf d (gathered d (made es first m)) (getD es m (argued none)) ≡ [] → InnerOf d es first m Nothing
+-- of a match x that is new: where it ended, and the count that its record has
+pub data InnerOf (d : ℕ) (es : List Entry) (first m : ℕ) (x : Record) : Inner → Type 0 where
+  new-match : {e : ℕ} → e < 128 → depthIn x ≡ d → freshOf d (gathered d (made es first m)) (getD es m (argued none)) ≡ (treeAt es m, e) ∷ []
+      → InnerOf d es first m x (Ends e (countIn x))
+  no-match : freshOf d (gathered d (made es first m)) (getD es m (argued none)) ≡ [] → InnerOf d es first m x Nothing

@@ -12,15 +12,16 @@ use syntax::walker::Step;
 use syntax::walker::Walker;
 use syntax::walker::least;
 ghost use mathlib.Core.Path.{_≡_};
+ghost use mathlib.Core.List.{List};
 ghost use Prim.Native.Nat.{ℕ, _+_, _<_, _≤_};
-ghost use lib.ListN.{length};
+ghost use lib.ListN.{length, getD};
 ghost use Rattle.readings.specs.Walk.{anySame, depths, sameMatch};
-ghost use Rattle.pool.specs.Log.{logOf};
+ghost use Rattle.pool.specs.Log.{decode, logOf};
 ghost use Rattle.pool.specs.Meaning.{Stored, entries, treeAt, gathered};
-ghost use Rattle.walk.specs.Met.{Ready, Left, finishPlan, rulePlan, exprPlan, nestedPlan, ran, pastAt, afterArg, made, InnerOf};
+ghost use Rattle.walk.specs.Met.{Ready, Stands, toCome, fromExpr, fromNest, Ended, Left, finishPlan, rulePlan, exprPlan, nestedPlan, ran, pastAt, afterArg, made, InnerOf};
 
 // Where a walk stands: a rule, by its ruleset and its number there; the places of its part words that are still to come; how
-// deep it is nested; its last argument so far, as the pool counts arguments.
+// deep it is nested; its last argument so far, as the pool counts arguments; the exact count of its match so far.
 pub struct Place {
     pub set: usize,
     pub rule: usize,
@@ -28,12 +29,13 @@ pub struct Place {
     pub end: usize,
     pub depth: usize,
     pub args: usize,
+    pub count: usize,
 }
 
 impl Place {
-    // The same pattern from another place on.
-    fn past(self, at: usize) -> Place
-        ensures { λ r. ⌜ r ≡ pastAt self at ⌝ }
+    // The same pattern from another place on, with the count so far.
+    fn past(self, at: usize, count: usize) -> Place
+        ensures { λ r. ⌜ r ≡ pastAt self at count ⌝ }
     {
         Place {
             set: self.set,
@@ -42,12 +44,13 @@ impl Place {
             end: self.end,
             depth: self.depth,
             args: self.args,
+            count,
         }
     }
 
-    // The same place after another argument.
-    fn after(self, args: usize) -> Place
-        ensures { λ r. ⌜ r ≡ afterArg self args ⌝ }
+    // The same place after another argument, with the count so far.
+    fn after(self, args: usize, count: usize) -> Place
+        ensures { λ r. ⌜ r ≡ afterArg self args count ⌝ }
     {
         Place {
             set: self.set,
@@ -56,6 +59,7 @@ impl Place {
             end: self.end,
             depth: self.depth,
             args,
+            count,
         }
     }
 }
@@ -76,9 +80,9 @@ pub enum Walked {
     Stopped(Refusal, usize),
 }
 
-// An inner match to go on from: where it ended.
+// An inner match to go on from: where it ended, and its exact count.
 pub enum Inner {
-    Ends(usize),
+    Ends(usize, usize),
     Nothing,
 }
 
@@ -87,6 +91,7 @@ fn finish(
     line: &[u8],
     store: &mut [usize],
     place: Place,
+    count: usize,
     walker: Walker,
     left: usize,
     pool: Pool,
@@ -99,7 +104,8 @@ fn finish(
     requires { ⌜ walker .cursor < 128 ⌝ }
     requires { ⌜ walker .cursor ≤ walker .limit ⌝ }
     requires { ⌜ (place .depth ≡ 0 → walker .limit ≡ length (now line)) ⌝ }
-    ensures { λ r. ⌜ Left (ran (finishPlan (length (now (line .entry))) (place .depth) (walker .cursor)) left pool) place (logOf (now (store .entry)) (pool .used)) (now (store .exit)) r ⌝ }
+    requires { ⌜ count < 128 ⌝ }
+    ensures { λ r. ⌜ ((t : List ℕ) → Ended t (now (store .entry)) (pool .used) place count → Left t (ran (finishPlan (length (now (line .entry))) (place .depth) (walker .cursor)) left pool) place (logOf (now (store .entry)) (pool .used)) (now (store .exit)) r) ⌝ }
 {
     let depth = place.depth;
     if depth == 0 {
@@ -108,7 +114,7 @@ fn finish(
         }
     }
     let end = walker.get_cursor_index();
-    match pool.complete(store, depth, place.set, place.rule, place.args, end) {
+    match pool.complete(store, depth, place.set, place.rule, place.args, end, count) {
         Room::Taken(more) => Walked::Done(left, more),
         Room::Full => Walked::Stopped(Refusal::Full, left),
     }
@@ -135,19 +141,21 @@ fn is_duplicate(store: &[usize], used: usize, first: usize, m: usize, depth: usi
     false
 }
 
-// Where record m ended, if it is a match of the depth and no record from `first` on and before it is the same.
+// Where record m ended and what it counts, if it is a match of the depth and no record from `first` on and before it is the
+// same.
 fn inner_match(store: &[usize], used: usize, first: usize, m: usize, depth: usize) -> Inner
     requires { ⌜ Stored (now store) used ⌝ }
     requires { ⌜ first ≤ m ⌝ }
     requires { ⌜ m < used ⌝ }
     requires { ⌜ depth < 32 ⌝ }
-    ensures { λ r. ⌜ InnerOf depth (entries (now (store .entry)) used) first m r ⌝ }
+    ensures { λ r. ⌜ InnerOf depth (entries (now (store .entry)) used) first m (decode (getD (now (store .entry)) m 0)) r ⌝ }
 {
     let record = pool::record_at(store, m);
     match record {
         Record::Kept {
             argument: _,
             prev: _,
+            count: _,
         } => Inner::Nothing,
         Record::Completed {
             depth: d,
@@ -155,6 +163,7 @@ fn inner_match(store: &[usize], used: usize, first: usize, m: usize, depth: usiz
             rule: _,
             args: _,
             end,
+            count,
         } => {
             if d != depth {
                 return Inner::Nothing;
@@ -162,7 +171,7 @@ fn inner_match(store: &[usize], used: usize, first: usize, m: usize, depth: usiz
             if is_duplicate(store, used, first, m, depth) {
                 return Inner::Nothing;
             }
-            Inner::Ends(end)
+            Inner::Ends(end, count)
         }
     }
 }
@@ -180,10 +189,12 @@ pub fn match_with_rule(
     pool: Pool,
 ) -> Walked
     requires { ⌜ Ready (now table) (now line) (now sheet) (now starts) (now store) place walker pool ⌝ }
-    ensures { λ r. ⌜ Left (ran (rulePlan (now (table .entry)) (now (line .entry)) (now (sheet .entry)) (place .depth) (place .at) (place .end) (walker .limit) (walker .cursor)) visits pool) place (logOf (now (store .entry)) (pool .used)) (now (store .exit)) r ⌝ }
+    requires { ⌜ Stands (now table) (now store) (pool .used) place (place .count) (toCome (now table) place) (walker .cursor) ⌝ }
+    ensures { λ r. ⌜ Left (now (table .entry)) (ran (rulePlan (now (table .entry)) (now (line .entry)) (now (sheet .entry)) (place .depth) (place .at) (place .end) (walker .limit) (walker .cursor)) visits pool) place (logOf (now (store .entry)) (pool .used)) (now (store .exit)) r ⌝ }
 {
     let mut left = visits;
     let mut at = place.at;
+    let mut count = place.count;
     // Held once, so that the compiler need not hold the limit anew at each part.
     let mut here = walker.set_cursor_index(line, walker.get_cursor_index());
     let end = place.end;
@@ -193,7 +204,7 @@ pub fn match_with_rule(
         }
         left -= 1;
         if at == end {
-            return finish(line, store, place, here, left, pool);
+            return finish(line, store, place, count, here, left, pool);
         }
         let part = ruledef::part_at(table, at);
         at += 1;
@@ -203,6 +214,7 @@ pub fn match_with_rule(
                 match step {
                     Step::Past(next) => {
                         here = next;
+                        count += 1;
                     }
                     Step::Stayed(_) => {
                         return Walked::Done(left, pool);
@@ -222,11 +234,11 @@ pub fn match_with_rule(
                 }
             }
             Part::Expression => {
-                let rest = place.past(at);
+                let rest = place.past(at, count);
                 return match_with_expr(table, line, sheet, starts, store, rest, here, left, pool);
             }
             Part::Nested(set) => {
-                let rest = place.past(at);
+                let rest = place.past(at, count);
                 return match_with_nested_ruledef(
                     table,
                     line,
@@ -257,7 +269,8 @@ fn match_with_expr(
     pool: Pool,
 ) -> Walked
     requires { ⌜ Ready (now table) (now line) (now sheet) (now starts) (now store) place walker pool ⌝ }
-    ensures { λ r. ⌜ Left (ran (exprPlan (now (table .entry)) (now (line .entry)) (now (sheet .entry)) (place .depth) (place .at) (place .end) (walker .limit) (walker .cursor)) visits pool) place (logOf (now (store .entry)) (pool .used)) (now (store .exit)) r ⌝ }
+    requires { ⌜ Stands (now table) (now store) (pool .used) place (place .count) (fromExpr (now table) place) (walker .cursor) ⌝ }
+    ensures { λ r. ⌜ Left (now (table .entry)) (ran (exprPlan (now (table .entry)) (now (line .entry)) (now (sheet .entry)) (place .depth) (place .at) (place .end) (walker .limit) (walker .cursor)) visits pool) place (logOf (now (store .entry)) (pool .used)) (now (store .exit)) r ⌝ }
 {
     let useful = walker.next_useful_index(line);
     let ends = lookahead::find_ends(table, line, sheet, walker, place.at, place.end);
@@ -273,13 +286,13 @@ fn match_with_expr(
             end,
             kind: ArgumentKind::Expr,
         };
-        let room = has.keep(store, argument, place.args);
+        let room = has.keep(store, argument, place.args, place.count);
         match room {
             Room::Full => {
                 return Walked::Stopped(Refusal::Full, left);
             }
             Room::Taken(more) => {
-                let next = place.after(more.used);
+                let next = place.after(more.used, place.count);
                 let moved = walker.set_cursor_index(line, end);
                 let got = match_with_rule(
                     table,
@@ -322,8 +335,9 @@ fn match_with_nested_ruledef(
     pool: Pool,
 ) -> Walked
     requires { ⌜ Ready (now table) (now line) (now sheet) (now starts) (now store) place walker pool ⌝ }
+    requires { ⌜ Stands (now table) (now store) (pool .used) place (place .count) (fromNest (now table) set place) (walker .cursor) ⌝ }
     requires { ⌜ set < 32 ⌝ }
-    ensures { λ r. ⌜ Left (ran (nestedPlan (now (table .entry)) (now (line .entry)) (now (sheet .entry)) (place .depth) set (place .at) (place .end) (walker .limit) (walker .cursor)) visits pool) place (logOf (now (store .entry)) (pool .used)) (now (store .exit)) r ⌝ }
+    ensures { λ r. ⌜ Left (now (table .entry)) (ran (nestedPlan (now (table .entry)) (now (line .entry)) (now (sheet .entry)) (place .depth) set (place .at) (place .end) (walker .limit) (walker .cursor)) visits pool) place (logOf (now (store .entry)) (pool .used)) (now (store .exit)) r ⌝ }
 {
     let depth = place.depth;
     if Pool::DEPTH <= depth {
@@ -350,6 +364,7 @@ fn match_with_nested_ruledef(
                 end: parts.end,
                 depth: depth + 1,
                 args: 0,
+                count: 0,
             };
             rule += 1;
             let got = match_with_rule(table, line, sheet, starts, store, start, inner, left, has);
@@ -372,20 +387,21 @@ fn match_with_nested_ruledef(
         let found = inner_match(store, has.used, first, here, depth + 1);
         match found {
             Inner::Nothing => {}
-            Inner::Ends(end) => {
+            Inner::Ends(end, inner) => {
                 let start = least(end, useful);
+                let count = place.count + inner;
                 let argument = Argument {
                     start,
                     end,
                     kind: ArgumentKind::Nested(here),
                 };
-                let room = has.keep(store, argument, place.args);
+                let room = has.keep(store, argument, place.args, count);
                 match room {
                     Room::Full => {
                         return Walked::Stopped(Refusal::Full, left);
                     }
                     Room::Taken(more) => {
-                        let next = place.after(more.used);
+                        let next = place.after(more.used, count);
                         let moved = walker.set_cursor_index(line, end);
                         let got = match_with_rule(
                             table,

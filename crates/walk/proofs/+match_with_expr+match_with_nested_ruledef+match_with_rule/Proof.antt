@@ -7,10 +7,10 @@ use lib.ListN.{length}
 use borrow.Author.Needs.{needs}
 use borrow.Fn.Kinds.{In}
 use borrow.Fn.PlainCycle.{Measures, is, falls, and}
-use Rattle.walk.proofs.Places.{begun-ready, begun-left, Along, along-start, along-stored, along-spent, along-end, along-exact, along-no-exact, along-whitespace, along-no-whitespace, along-expression, along-nested, step-ready, ruleset-few}
-use Rattle.walk.proofs.Exprs.{ExprDid, expr-start, expr-end, expr-fits, expr-full, expr-ready, expr-again, expr-halt, ends-three}
-use Rattle.walk.proofs.Rules.{RulesDid, LimitsDid, starts-long, starts-ordered, starts-few, rule-ready, rules-again, rules-stop, rules-start, limits-start, limits-again, limits-stop, limits-two, inner-within}
-use Rattle.walk.proofs.Nests.{NestDid, nest-start, nest-skip, nest-fits, nest-member, nest-full, nest-ready, nest-again, nest-halt, nest-used, nested-deep, nested-stop, nested-grown, nested-within, nested-halt, nested-done}
+use Rattle.walk.proofs.Places.{begun-ready, begun-stands, begun-left, Along, along-start, along-stored, along-small, along-ended, along-spent, along-end, along-exact, along-no-exact, along-whitespace, along-no-whitespace, along-expression, along-nested, step-ready, step-stands, ruleset-few}
+use Rattle.walk.proofs.Exprs.{ExprDid, expr-start, expr-end, expr-fits, expr-full, expr-counted, expr-stands, expr-ready, expr-again, expr-halt, ends-three}
+use Rattle.walk.proofs.Rules.{RulesDid, LimitsDid, starts-long, starts-ordered, starts-few, rule-ready, rule-stands, rules-again, rules-stop, rules-start, limits-start, limits-again, limits-stop, limits-two, inner-within}
+use Rattle.walk.proofs.Nests.{NestDid, nest-start, nest-skip, nest-counted, nest-fits, nest-member, nest-full, nest-kept, nest-stands, nest-ready, nest-again, nest-halt, nest-used, nested-deep, nested-stop, nested-grown, nested-since, nested-within, nested-few, nested-halt, nested-done}
 use Rattle.walk.proofs.match_with_expr.Reads as expr
 use Rattle.walk.proofs.match_with_expr.Kinds as expr-kinds
 use Rattle.walk.proofs.+match_with_expr+match_with_nested_ruledef+match_with_rule.Lts-match_with_expr as E
@@ -105,11 +105,11 @@ abbrev n-μ3 : N.MeasureT-loop3
 n-μ3 table line sheet starts store₀ set place walker visits depth useful begin count first left₀ has₀ pass last m₀ store left has m = last - m
 
 abbrev r-Inv : R.InvT-loop
-r-Inv table line sheet starts store₀ place visits pool left₀ at₀ here₀ end store left at here =
-    Along table line sheet place here₀ end (pool .used) store₀ left₀ at₀ store left at here
+r-Inv table line sheet starts store₀ place visits pool left₀ at₀ count₀ here₀ end store left at count here =
+    Along table line sheet place here₀ end (pool .used) store₀ left₀ at₀ store left at count here
 
 abbrev r-μ : R.MeasureT-loop
-r-μ table line sheet starts store₀ place visits pool left₀ at₀ here₀ end store left at here = left
+r-μ table line sheet starts store₀ place visits pool left₀ at₀ count₀ here₀ end store left at count here = left
 
 e-next-useful-index-requires : (t : ℕ) → E.Need-next-useful-index-requires (e-calls t) (e-at t) expr.Post e-Inv e-μ
 e-next-useful-index-requires t c κs = search needs
@@ -122,7 +122,7 @@ e-loop-holds t c =
     let c-pre = c .before .before .before .before .before .before .before .pre in
     let c-next-useful-index = c .before .next-useful-index in
     let c-find-ends = c .find-ends in
-    expr-start (c-pre .1) _ _ (c-next-useful-index .ensures) _ (c-find-ends .ensures)
+    expr-start (c-pre .1 .0) _ _ (c-next-useful-index .ensures) _ (c-find-ends .ensures)
 
 e-mul-end : (t : ℕ) → E.Need-mul-end (e-calls t) (e-at t) expr.Post e-Inv e-μ
 e-mul-end t c =
@@ -131,7 +131,7 @@ e-mul-end t c =
     let c-next-useful-index = c .before .before .before .next-useful-index in
     let c-find-ends = c .before .before .find-ends in
     let c-loop-test = c .loop-test in
-    omega (arith, ends-three (c-pre .1) (c-args .visits) _ (c-next-useful-index .ensures) _ (c-find-ends .ensures), c-loop-test .taken)
+    omega (arith, ends-three (c-pre .1 .0) (c-args .visits) _ (c-next-useful-index .ensures) _ (c-find-ends .ensures), c-loop-test .taken)
 
 e-element-copy-out-end : (t : ℕ) → E.Need-element-copy-out-end (e-calls t) (e-at t) expr.Post e-Inv e-μ
 e-element-copy-out-end t c =
@@ -140,7 +140,7 @@ e-element-copy-out-end t c =
     let c-next-useful-index = c .before .before .before .next-useful-index in
     let c-find-ends = c .before .before .find-ends in
     let c-loop-test = c .loop-test in
-    omega (arith, ends-three (c-pre .1) (c-args .visits) _ (c-next-useful-index .ensures) _ (c-find-ends .ensures), c-loop-test .taken)
+    omega (arith, ends-three (c-pre .1 .0) (c-args .visits) _ (c-next-useful-index .ensures) _ (c-find-ends .ensures), c-loop-test .taken)
 
 e-add-i : (t : ℕ) → E.Need-add-i (e-calls t) (e-at t) expr.Post e-Inv e-μ
 e-add-i t c =
@@ -149,7 +149,7 @@ e-add-i t c =
     let c-next-useful-index = c .before .before .before .before .next-useful-index in
     let c-find-ends = c .before .before .before .find-ends in
     let c-loop-test = c .before .loop-test in
-    omega (arith, ends-three (c-pre .1) (c-args .visits) _ (c-next-useful-index .ensures) _ (c-find-ends .ensures), c-loop-test .taken)
+    omega (arith, ends-three (c-pre .1 .0) (c-args .visits) _ (c-next-useful-index .ensures) _ (c-find-ends .ensures), c-loop-test .taken)
 
 e-least-requires : (t : ℕ) → E.Need-least-requires (e-calls t) (e-at t) expr.Post e-Inv e-μ
 e-least-requires t c κs = search needs
@@ -162,7 +162,7 @@ e-keep-requires t c κs =
     let c-find-ends = c .before .before .before .before .before .find-ends in
     let c-loop-test = c .before .before .before .loop-test in
     let c-least = c .before .least in
-    (c-loop .inv .stored .sized, (c-loop .inv .stored .room, expr-fits (c-pre .1) _ _ (c-next-useful-index .ensures) _ (c-find-ends .ensures) (c-loop .inv) (c-loop-test .taken) _ refl (c-least .ensures)))
+    (c-loop .inv .stored .sized, (c-loop .inv .stored .room, expr-fits (c-pre .1 .0) _ _ (c-next-useful-index .ensures) _ (c-find-ends .ensures) (c-loop .inv) (c-loop-test .taken) _ refl (c-least .ensures) (c-pre .1 .1 .small)))
 
 e-enum-told : (t : ℕ) → E.Need-enum-told (e-calls t) (e-at t) expr.Post e-Inv e-μ
 e-enum-told t c = search needs
@@ -172,7 +172,7 @@ e-same-length t c =
     let c-keep = c .before .before .before .before .keep in
     let c-loop = c .before .before .before .before .before .before .before .before .before .loop in
     let c-pre = c .before .before .before .before .before .before .before .before .before .before .before .before .before .before .before .before .before .pre in
-    omega (arith, c-keep .kept, c-loop .inv .stored .sized, c-pre .1 .stored .sized)
+    omega (arith, c-keep .kept, c-loop .inv .stored .sized, c-pre .1 .0 .stored .sized)
 
 e-returns : (t : ℕ) → E.Need-returns (e-calls t) (e-at t) expr.Post e-Inv e-μ
 e-returns t c =
@@ -183,7 +183,7 @@ e-returns t c =
     let c-loop-test = c .before .before .before .before .before .before .before .before .loop-test in
     let c-enum-told = c .enum-told in
     let c-keep = c .before .before .before .before .keep in
-    expr-full (c-pre .1) _ _ (c-next-useful-index .ensures) _ (c-find-ends .ensures) (c-loop .inv) (c-loop-test .taken) _ refl _ (rw (c-enum-told .given .1) at (c-keep .ensures .log))
+    expr-full (c-pre .1 .0) _ _ (c-next-useful-index .ensures) _ (c-find-ends .ensures) (c-loop .inv) (c-loop-test .taken) _ refl _ (rw (c-enum-told .given .1) at (c-keep .ensures .log))
 
 e-enum-known-room : (t : ℕ) → E.Need-enum-known-room (e-calls t) (e-at t) expr.Post e-Inv e-μ
 e-enum-known-room t c = search needs
@@ -207,8 +207,12 @@ e-match-with-rule-requires t c κs =
     let c-after = c .before .before .after in
     let c-set-cursor-index = c .before .set-cursor-index in (
       omega (arith, c-loop .inv .falls, c-pre .0),
-      expr-ready (c-pre .1) _ _ (c-next-useful-index .ensures) _ (c-find-ends .ensures) (c-loop .inv) (c-loop-test .taken) _ refl _ (c-least .ensures) _ _ (rw (c-room .given .1) at (c-keep .ensures .log)) (c-after .ensures)
-          (omega (arith, c-keep .kept, c-loop .inv .stored .sized)) (c-set-cursor-index .ensures),
+      (
+        expr-ready (c-pre .1 .0) _ _ (c-next-useful-index .ensures) _ (c-find-ends .ensures) (c-loop .inv) (c-loop-test .taken) _ refl _ (c-least .ensures) _ _ (rw (c-room .given .1) at (c-keep .ensures .log)) (c-after .ensures)
+            (omega (arith, c-keep .kept, c-loop .inv .stored .sized))
+            (expr-counted (c-pre .1 .0) _ _ (c-next-useful-index .ensures) _ (c-find-ends .ensures) (c-loop .inv) (c-loop-test .taken) _ refl _ (c-least .ensures) _ _ (rw (c-room .given .1) at (c-keep .ensures .log)) (c-pre .1 .1)) (c-set-cursor-index .ensures),
+        expr-stands (c-pre .1 .0) _ _ (c-next-useful-index .ensures) _ (c-find-ends .ensures) (c-loop .inv) (c-loop-test .taken) _ refl _ (c-least .ensures) _ _ (rw (c-room .given .1) at (c-keep .ensures .log)) (c-pre .1 .1) (c-after .ensures) (c-set-cursor-index .ensures),
+      ),
     )
 
 e-enum-known-got : (t : ℕ) → E.Need-enum-known-got (e-calls t) (e-at t) expr.Post e-Inv e-μ
@@ -233,7 +237,7 @@ e-loop-again t c =
     let c-set-cursor-index = c .before .before .before .before .before .before .before .set-cursor-index in
     let c-match-with-rule = c .before .before .before .before .before .match-with-rule in
     let c-got = c .before .got in
-    expr-again (c-pre .1) _ _ (c-next-useful-index .ensures) _ (c-find-ends .ensures) (c-loop .inv) (c-loop-test .taken) _ refl _ (c-least .ensures) _ _ (rw (c-room .given .1) at (c-keep .ensures .log)) (c-after .ensures) (c-set-cursor-index .ensures) (c-match-with-rule .ensures) (c-got .given .1)
+    expr-again (c-pre .1 .0) _ _ (c-next-useful-index .ensures) _ (c-find-ends .ensures) (c-loop .inv) (c-loop-test .taken) _ refl _ (c-least .ensures) _ _ (rw (c-room .given .1) at (c-keep .ensures .log)) (c-after .ensures) (c-set-cursor-index .ensures) (c-match-with-rule .ensures) (c-got .given .1)
     (omega (arith, c-match-with-rule .kept, c-keep .kept, c-loop .inv .stored .sized))
 
 e-enum-known-got-2 : (t : ℕ) → E.Need-enum-known-got-2 (e-calls t) (e-at t) expr.Post e-Inv e-μ
@@ -245,7 +249,7 @@ e-same-length-2 t c =
     let c-keep = c .before .before .before .before .before .before .before .before .before .before .before .before .before .before .keep in
     let c-loop = c .before .before .before .before .before .before .before .before .before .before .before .before .before .before .before .before .before .before .before .loop in
     let c-pre = c .before .before .before .before .before .before .before .before .before .before .before .before .before .before .before .before .before .before .before .before .before .before .before .before .before .before .before .pre in
-    omega (arith, c-match-with-rule .kept, c-keep .kept, c-loop .inv .stored .sized, c-pre .1 .stored .sized)
+    omega (arith, c-match-with-rule .kept, c-keep .kept, c-loop .inv .stored .sized, c-pre .1 .0 .stored .sized)
 
 e-returns-2 : (t : ℕ) → E.Need-returns-2 (e-calls t) (e-at t) expr.Post e-Inv e-μ
 e-returns-2 t c =
@@ -261,13 +265,13 @@ e-returns-2 t c =
     let c-set-cursor-index = c .before .before .before .before .before .before .before .set-cursor-index in
     let c-match-with-rule = c .before .before .before .before .before .match-with-rule in
     let c-got2 = c .before .got2 in
-    expr-halt (c-pre .1) _ _ (c-next-useful-index .ensures) _ (c-find-ends .ensures) (c-loop .inv) (c-loop-test .taken) _ refl _ (c-least .ensures) _ _ (rw (c-room .given .1) at (c-keep .ensures .log)) (c-after .ensures) (c-set-cursor-index .ensures) (c-match-with-rule .ensures) (c-got2 .given .1)
+    expr-halt (c-pre .1 .0) _ _ (c-next-useful-index .ensures) _ (c-find-ends .ensures) (c-loop .inv) (c-loop-test .taken) _ refl _ (c-least .ensures) _ _ (rw (c-room .given .1) at (c-keep .ensures .log)) (c-after .ensures) (c-set-cursor-index .ensures) (c-match-with-rule .ensures) (c-got2 .given .1)
 
 e-same-length-3 : (t : ℕ) → E.Need-same-length-3 (e-calls t) (e-at t) expr.Post e-Inv e-μ
 e-same-length-3 t c =
     let c-loop = c .before .loop in
     let c-pre = c .before .before .before .before .before .before .before .before .before .pre in
-    omega (arith, c-loop .inv .stored .sized, c-pre .1 .stored .sized)
+    omega (arith, c-loop .inv .stored .sized, c-pre .1 .0 .stored .sized)
 
 e-returns-3 : (t : ℕ) → E.Need-returns-3 (e-calls t) (e-at t) expr.Post e-Inv e-μ
 e-returns-3 t c =
@@ -276,7 +280,7 @@ e-returns-3 t c =
     let c-find-ends = c .before .before .find-ends in
     let c-loop = c .before .loop in
     let c-loop-test = c .loop-test in
-    expr-end (c-pre .1) _ _ (c-next-useful-index .ensures) _ (c-find-ends .ensures) (c-loop .inv) _ refl (c-loop-test .left)
+    expr-end (c-pre .1 .0) _ _ (c-next-useful-index .ensures) _ (c-find-ends .ensures) (c-loop .inv) _ refl (c-loop-test .left)
 
 n-returns : (t : ℕ) → N.Need-returns (n-calls t) (n-at t) nested.Post n-Inv2 n-μ2 n-Inv n-μ n-Inv3 n-μ3
 n-returns t c =
@@ -297,18 +301,18 @@ n-shared-slice-read-begin : (t : ℕ) → N.Need-shared-slice-read-begin (n-call
 n-shared-slice-read-begin t c =
     let c-pre = c .before .before .before .before .before .before .before .before .before .pre in
     let c-if1 = c .before .before .before .if1 in
-    omega (arith, starts-long (c-pre .1 .0) _ (c-pre .1 .1) (c-if1 .left), c-pre .1 .1)
+    omega (arith, starts-long (c-pre .1 .0) _ (c-pre .1 .1 .1) (c-if1 .left), c-pre .1 .1 .1)
 
 n-cast-begin : (t : ℕ) → N.Need-cast-begin (n-calls t) (n-at t) nested.Post n-Inv2 n-μ2 n-Inv n-μ n-Inv3 n-μ3
 n-cast-begin t c =
     let c-pre = c .before .before .before .before .before .before .before .before .before .pre in
     let c-if1 = c .before .before .before .if1 in
-    omega (arith, starts-ordered (c-pre .1 .0) _ (c-pre .1 .1) (c-if1 .left), starts-few (c-pre .1 .0) _ (c-pre .1 .1) (c-if1 .left))
+    omega (arith, starts-ordered (c-pre .1 .0) _ (c-pre .1 .1 .1) (c-if1 .left), starts-few (c-pre .1 .0) _ (c-pre .1 .1 .1) (c-if1 .left))
 
 n-add-count : (t : ℕ) → N.Need-add-count (n-calls t) (n-at t) nested.Post n-Inv2 n-μ2 n-Inv n-μ n-Inv3 n-μ3
 n-add-count t c =
     let c-pre = c .before .before .before .before .before .before .before .before .before .pre in
-    omega (arith, c-pre .1 .1)
+    omega (arith, c-pre .1 .1 .1)
 
 n-mul-count : (t : ℕ) → N.Need-mul-count (n-calls t) (n-at t) nested.Post n-Inv2 n-μ2 n-Inv n-μ n-Inv3 n-μ3
 n-mul-count t c = search needs
@@ -317,26 +321,26 @@ n-shared-slice-read-count : (t : ℕ) → N.Need-shared-slice-read-count (n-call
 n-shared-slice-read-count t c =
     let c-pre = c .before .before .before .before .before .before .before .before .before .before .pre in
     let c-if1 = c .before .before .before .before .if1 in
-    omega (arith, starts-long (c-pre .1 .0) _ (c-pre .1 .1) (c-if1 .left), c-pre .1 .1)
+    omega (arith, starts-long (c-pre .1 .0) _ (c-pre .1 .1 .1) (c-if1 .left), c-pre .1 .1 .1)
 
 n-cast-count : (t : ℕ) → N.Need-cast-count (n-calls t) (n-at t) nested.Post n-Inv2 n-μ2 n-Inv n-μ n-Inv3 n-μ3
 n-cast-count t c =
     let c-pre = c .before .before .before .before .before .before .before .before .before .before .pre in
     let c-if1 = c .before .before .before .before .if1 in
-    omega (arith, starts-few (c-pre .1 .0) _ (c-pre .1 .1) (c-if1 .left))
+    omega (arith, starts-few (c-pre .1 .0) _ (c-pre .1 .1 .1) (c-if1 .left))
 
 n-sub-count : (t : ℕ) → N.Need-sub-count (n-calls t) (n-at t) nested.Post n-Inv2 n-μ2 n-Inv n-μ n-Inv3 n-μ3
 n-sub-count t c =
     let c-pre = c .before .before .before .before .before .before .before .before .before .before .pre in
     let c-if1 = c .before .before .before .before .if1 in
-    omega (arith, starts-ordered (c-pre .1 .0) _ (c-pre .1 .1) (c-if1 .left))
+    omega (arith, starts-ordered (c-pre .1 .0) _ (c-pre .1 .1 .1) (c-if1 .left))
 
 n-loop-holds : (t : ℕ) → N.Need-loop-holds (n-calls t) (n-at t) nested.Post n-Inv2 n-μ2 n-Inv n-μ n-Inv3 n-μ3
 n-loop-holds t c =
     let c-pre = c .before .before .before .before .before .before .before .before .before .before .pre in
     let c-if1 = c .before .before .before .before .if1 in
     let c-find-limits = c .before .before .find-limits in
-    limits-start (c-pre .1 .0) _ (c-pre .1 .1) (c-if1 .left) (c-find-limits .result) _
+    limits-start (c-pre .1 .0) _ (c-pre .1 .1 .1) (c-if1 .left) (c-find-limits .result) _
 
 n-mul-set-cursor-limit : (t : ℕ) → N.Need-mul-set-cursor-limit (n-calls t) (n-at t) nested.Post n-Inv2 n-μ2 n-Inv n-μ n-Inv3 n-μ3
 n-mul-set-cursor-limit t c =
@@ -344,7 +348,7 @@ n-mul-set-cursor-limit t c =
     let c-if1 = c .before .before .before .before .before .before .if1 in
     let c-find-limits = c .before .before .before .before .find-limits in
     let c-loop-test = c .loop-test in
-    omega (arith, limits-two (c-pre .1 .0) _ (c-pre .1 .1) (c-if1 .left) _ _ refl refl _ (c-find-limits .ensures), c-loop-test .taken)
+    omega (arith, limits-two (c-pre .1 .0) _ (c-pre .1 .1 .1) (c-if1 .left) _ _ refl refl _ (c-find-limits .ensures), c-loop-test .taken)
 
 n-element-copy-out-set-cursor-limit : (t : ℕ) → N.Need-element-copy-out-set-cursor-limit (n-calls t) (n-at t) nested.Post n-Inv2 n-μ2 n-Inv n-μ n-Inv3 n-μ3
 n-element-copy-out-set-cursor-limit t c =
@@ -352,7 +356,7 @@ n-element-copy-out-set-cursor-limit t c =
     let c-if1 = c .before .before .before .before .before .before .if1 in
     let c-find-limits = c .before .before .before .before .find-limits in
     let c-loop-test = c .loop-test in
-    omega (arith, limits-two (c-pre .1 .0) _ (c-pre .1 .1) (c-if1 .left) _ _ refl refl _ (c-find-limits .ensures), c-loop-test .taken)
+    omega (arith, limits-two (c-pre .1 .0) _ (c-pre .1 .1 .1) (c-if1 .left) _ _ refl refl _ (c-find-limits .ensures), c-loop-test .taken)
 
 n-set-cursor-limit-requires : (t : ℕ) → N.Need-set-cursor-limit-requires (n-calls t) (n-at t) nested.Post n-Inv2 n-μ2 n-Inv n-μ n-Inv3 n-μ3
 n-set-cursor-limit-requires t c κs = search needs
@@ -363,14 +367,14 @@ n-add-pass t c =
     let c-if1 = c .before .before .before .before .before .before .before .before .if1 in
     let c-find-limits = c .before .before .before .before .before .before .find-limits in
     let c-loop-test = c .before .before .loop-test in
-    omega (arith, limits-two (c-pre .1 .0) _ (c-pre .1 .1) (c-if1 .left) _ _ refl refl _ (c-find-limits .ensures), c-loop-test .taken)
+    omega (arith, limits-two (c-pre .1 .0) _ (c-pre .1 .1 .1) (c-if1 .left) _ _ refl refl _ (c-find-limits .ensures), c-loop-test .taken)
 
 n-loop2-holds : (t : ℕ) → N.Need-loop2-holds (n-calls t) (n-at t) nested.Post n-Inv2 n-μ2 n-Inv n-μ n-Inv3 n-μ3
 n-loop2-holds t c =
     let c-pre = c .before .before .before .before .before .before .before .before .before .before .before .before .before .before .pre in
     let c-if1 = c .before .before .before .before .before .before .before .before .if1 in
     let c-loop = c .before .before .before .loop in
-    rules-start (c-pre .1 .0) _ (c-pre .1 .1) (c-if1 .left) _ _ refl refl _ _ _ _ (c-loop .inv .stored)
+    rules-start (c-pre .1 .0) _ (c-pre .1 .1 .1) (c-if1 .left) _ _ refl refl _ _ _ _ (c-loop .inv .stored) (c-loop .inv .counted)
 
 n-loop-less : (t : ℕ) → N.Need-loop-less (n-calls t) (n-at t) nested.Post n-Inv2 n-μ2 n-Inv n-μ n-Inv3 n-μ3
 n-loop-less t c =
@@ -387,27 +391,27 @@ n-loop-again t c =
     let c-loop = c .before .before .before .before .before .loop in
     let c-loop2 = c .before .loop2 in
     let c-loop2-test = c .loop2-test in
-    limits-again (c-pre .1 .0) _ (c-pre .1 .1) (c-if1 .left) _ _ refl refl _ (c-find-limits .ensures) _ (c-loop-test .taken) _ refl _ (c-set-cursor-limit .ensures) (c-loop .inv) (c-loop2 .inv) (c-loop2-test .left)
+    limits-again (c-pre .1 .0) _ (c-pre .1 .1 .1) (c-if1 .left) _ _ refl refl _ (c-find-limits .ensures) _ (c-loop-test .taken) _ refl _ (c-set-cursor-limit .ensures) (c-loop .inv) (c-loop2 .inv) (c-loop2-test .left)
 
 n-add-parts-of : (t : ℕ) → N.Need-add-parts-of (n-calls t) (n-at t) nested.Post n-Inv2 n-μ2 n-Inv n-μ n-Inv3 n-μ3
 n-add-parts-of t c =
     let c-pre = c .before .before .before .before .before .before .before .before .before .before .before .before .before .before .before .before .pre in
     let c-if1 = c .before .before .before .before .before .before .before .before .before .before .if1 in
     let c-loop2-test = c .loop2-test in
-    omega (arith, starts-few (c-pre .1 .0) _ (c-pre .1 .1) (c-if1 .left), starts-ordered (c-pre .1 .0) _ (c-pre .1 .1) (c-if1 .left), c-loop2-test .taken)
+    omega (arith, starts-few (c-pre .1 .0) _ (c-pre .1 .1 .1) (c-if1 .left), starts-ordered (c-pre .1 .0) _ (c-pre .1 .1 .1) (c-if1 .left), c-loop2-test .taken)
 
 n-cast-parts-of : (t : ℕ) → N.Need-cast-parts-of (n-calls t) (n-at t) nested.Post n-Inv2 n-μ2 n-Inv n-μ n-Inv3 n-μ3
 n-cast-parts-of t c =
     let c-pre = c .before .before .before .before .before .before .before .before .before .before .before .before .before .before .before .before .pre in
     let c-if1 = c .before .before .before .before .before .before .before .before .before .before .if1 in
     let c-loop2-test = c .loop2-test in
-    omega (arith, starts-few (c-pre .1 .0) _ (c-pre .1 .1) (c-if1 .left), starts-ordered (c-pre .1 .0) _ (c-pre .1 .1) (c-if1 .left), c-loop2-test .taken)
+    omega (arith, starts-few (c-pre .1 .0) _ (c-pre .1 .1 .1) (c-if1 .left), starts-ordered (c-pre .1 .0) _ (c-pre .1 .1 .1) (c-if1 .left), c-loop2-test .taken)
 
 n-parts-of-requires : (t : ℕ) → N.Need-parts-of-requires (n-calls t) (n-at t) nested.Post n-Inv2 n-μ2 n-Inv n-μ n-Inv3 n-μ3
 n-parts-of-requires t c κs = search needs
 
-n-add-t60 : (t : ℕ) → N.Need-add-t60 (n-calls t) (n-at t) nested.Post n-Inv2 n-μ2 n-Inv n-μ n-Inv3 n-μ3
-n-add-t60 t c =
+n-add-t62 : (t : ℕ) → N.Need-add-t62 (n-calls t) (n-at t) nested.Post n-Inv2 n-μ2 n-Inv n-μ n-Inv3 n-μ3
+n-add-t62 t c =
     let c-if1 = c .before .before .before .before .before .before .before .before .before .before .before .if1 in
     omega (arith, c-if1 .left)
 
@@ -416,7 +420,7 @@ n-add-rule t c =
     let c-pre = c .before .before .before .before .before .before .before .before .before .before .before .before .before .before .before .before .before .pre in
     let c-if1 = c .before .before .before .before .before .before .before .before .before .before .before .if1 in
     let c-loop2-test = c .before .loop2-test in
-    omega (arith, starts-few (c-pre .1 .0) _ (c-pre .1 .1) (c-if1 .left), c-loop2-test .taken)
+    omega (arith, starts-few (c-pre .1 .0) _ (c-pre .1 .1 .1) (c-if1 .left), c-loop2-test .taken)
 
 n-match-with-rule-requires : (t : ℕ) → N.Need-match-with-rule-requires (n-calls t) (n-at t) nested.Post n-Inv2 n-μ2 n-Inv n-μ n-Inv3 n-μ3
 n-match-with-rule-requires t c κs =
@@ -429,9 +433,12 @@ n-match-with-rule-requires t c κs =
     let c-loop = c .before .before .before .before .before .before .before .loop in
     let c-loop2-test = c .before .before .loop2-test in
     let c-parts-of = c .before .parts-of in
-    let (a, b) = inner-within (c-pre .1 .0) _ (c-pre .1 .1) (c-if1 .left) _ _ refl refl _ (c-find-limits .ensures) _ (c-loop-test .taken) _ refl _ (c-set-cursor-limit .ensures) in (
+    let (a, b) = inner-within (c-pre .1 .0) _ (c-pre .1 .1 .1) (c-if1 .left) _ _ refl refl _ (c-find-limits .ensures) _ (c-loop-test .taken) _ refl _ (c-set-cursor-limit .ensures) in (
       omega (arith, c-loop2 .inv .falls, c-loop .inv .falls, c-pre .0),
-      rule-ready (c-pre .1 .0) _ (c-pre .1 .1) (c-if1 .left) _ _ refl refl _ (c-loop2-test .taken) _ (c-parts-of .ensures) _ a b _ _ (c-loop2 .inv .stored),
+      (
+        rule-ready (c-pre .1 .0) _ (c-pre .1 .1 .1) (c-if1 .left) _ _ refl refl _ (c-loop2-test .taken) _ (c-parts-of .ensures) _ a b _ _ (c-loop2 .inv .stored) (c-loop2 .inv .counted),
+        rule-stands (c-pre .1 .0) _ (c-pre .1 .1 .1) (c-if1 .left) _ _ refl refl _ (c-loop2-test .taken) _ (c-parts-of .ensures) _ a b _ _,
+      ),
     )
 
 n-enum-known-got : (t : ℕ) → N.Need-enum-known-got (n-calls t) (n-at t) nested.Post n-Inv2 n-μ2 n-Inv n-μ n-Inv3 n-μ3
@@ -454,8 +461,8 @@ n-loop2-again t c =
     let c-loop2 = c .before .before .before .before .before .before .before .before .before .loop2 in
     let c-match-with-rule = c .before .before .before .before .before .match-with-rule in
     let c-got = c .before .got in
-    let (a, b) = inner-within (c-pre .1 .0) _ (c-pre .1 .1) (c-if1 .left) _ _ refl refl _ (c-find-limits .ensures) _ (c-loop-test .taken) _ refl _ (c-set-cursor-limit .ensures) in
-    rules-again (c-pre .1 .0) _ (c-pre .1 .1) (c-if1 .left) _ _ refl refl _ (c-loop2-test .taken) _ (c-parts-of .ensures) _ a b (c-loop2 .inv) refl (c-match-with-rule .ensures) (c-got .given .1)
+    let (a, b) = inner-within (c-pre .1 .0) _ (c-pre .1 .1 .1) (c-if1 .left) _ _ refl refl _ (c-find-limits .ensures) _ (c-loop-test .taken) _ refl _ (c-set-cursor-limit .ensures) in
+    rules-again (c-pre .1 .0) _ (c-pre .1 .1 .1) (c-if1 .left) _ _ refl refl _ (c-loop2-test .taken) _ (c-parts-of .ensures) _ a b (c-loop2 .inv) refl (c-match-with-rule .ensures) (c-got .given .1)
     (omega (arith, c-match-with-rule .kept, c-loop2 .inv .stored .sized))
 
 n-enum-known-got-2 : (t : ℕ) → N.Need-enum-known-got-2 (n-calls t) (n-at t) nested.Post n-Inv2 n-μ2 n-Inv n-μ n-Inv3 n-μ3
@@ -482,10 +489,10 @@ n-returns-2 t c =
     let c-loop2 = c .before .before .before .before .before .before .before .before .before .loop2 in
     let c-match-with-rule = c .before .before .before .before .before .match-with-rule in
     let c-got2 = c .before .got2 in
-    let (a, b) = inner-within (c-pre .1 .0) _ (c-pre .1 .1) (c-if1 .left) _ _ refl refl _ (c-find-limits .ensures) _ (c-loop-test .taken) _ refl _ (c-set-cursor-limit .ensures) in
-    nested-stop (c-pre .1 .0) _ _ (c-pre .1 .1) (c-if1 .left) _ _ refl refl _ (c-next-useful-index .ensures) _ (c-find-limits .ensures) _
-    (limits-stop (c-pre .1 .0) _ (c-pre .1 .1) (c-if1 .left) _ _ refl refl _ (c-find-limits .ensures) _ (c-loop-test .taken) _ refl _ (c-set-cursor-limit .ensures) (c-loop .inv)
-    (rules-stop (c-pre .1 .0) _ (c-pre .1 .1) (c-if1 .left) _ _ refl refl _ (c-loop2-test .taken) _ (c-parts-of .ensures) _ a b (c-loop2 .inv) refl (c-match-with-rule .ensures) (c-got2 .given .1)))
+    let (a, b) = inner-within (c-pre .1 .0) _ (c-pre .1 .1 .1) (c-if1 .left) _ _ refl refl _ (c-find-limits .ensures) _ (c-loop-test .taken) _ refl _ (c-set-cursor-limit .ensures) in
+    nested-stop (c-pre .1 .0) _ _ (c-pre .1 .1 .1) (c-if1 .left) _ _ refl refl _ (c-next-useful-index .ensures) _ (c-find-limits .ensures) _
+    (limits-stop (c-pre .1 .0) _ (c-pre .1 .1 .1) (c-if1 .left) _ _ refl refl _ (c-find-limits .ensures) _ (c-loop-test .taken) _ refl _ (c-set-cursor-limit .ensures) (c-loop .inv)
+    (rules-stop (c-pre .1 .0) _ (c-pre .1 .1 .1) (c-if1 .left) _ _ refl refl _ (c-loop2-test .taken) _ (c-parts-of .ensures) _ a b (c-loop2 .inv) refl (c-match-with-rule .ensures) (c-got2 .given .1)))
 
 n-loop3-holds : (t : ℕ) → N.Need-loop3-holds (n-calls t) (n-at t) nested.Post n-Inv2 n-μ2 n-Inv n-μ n-Inv3 n-μ3
 n-loop3-holds t c =
@@ -495,8 +502,8 @@ n-loop3-holds t c =
     let c-next-useful-index = c .before .before .before .before .before .next-useful-index in
     let c-find-limits = c .before .before .before .before .find-limits in
     let c-loop-test = c .loop-test in
-    nest-start (c-pre .1 .0) (c-if1 .left) _ (c-loop .inv .stored)
-    (nested-grown (c-pre .1 .0) _ _ (c-pre .1 .1) (c-if1 .left) _ _ refl refl _ (c-next-useful-index .ensures) _ (c-find-limits .ensures) (c-loop .inv) (c-loop-test .left))
+    nest-start (c-pre .1 .0) (c-if1 .left) _ (c-loop .inv .stored) (c-loop .inv .counted)
+    (nested-grown (c-pre .1 .0) _ _ (c-pre .1 .1 .1) (c-if1 .left) _ _ refl refl _ (c-next-useful-index .ensures) _ (c-find-limits .ensures) (c-loop .inv) (c-loop-test .left))
 
 n-add-m : (t : ℕ) → N.Need-add-m (n-calls t) (n-at t) nested.Post n-Inv2 n-μ2 n-Inv n-μ n-Inv3 n-μ3
 n-add-m t c =
@@ -541,16 +548,40 @@ n-enum-known-found t c = search needs
 n-least-requires : (t : ℕ) → N.Need-least-requires (n-calls t) (n-at t) nested.Post n-Inv2 n-μ2 n-Inv n-μ n-Inv3 n-μ3
 n-least-requires t c κs = search needs
 
-n-keep-requires : (t : ℕ) → N.Need-keep-requires (n-calls t) (n-at t) nested.Post n-Inv2 n-μ2 n-Inv n-μ n-Inv3 n-μ3
-n-keep-requires t c κs =
-    let c-loop3 = c .before .before .before .before .before .before .before .before .loop3 in
+n-add-count-2 : (t : ℕ) → N.Need-add-count-2 (n-calls t) (n-at t) nested.Post n-Inv2 n-μ2 n-Inv n-μ n-Inv3 n-μ3
+n-add-count-2 t c =
     let c-pre = c .before .before .before .before .before .before .before .before .before .before .before .before .before .before .before .before .before .before .before .before .before .pre in
     let c-if1 = c .before .before .before .before .before .before .before .before .before .before .before .before .before .before .before .if1 in
+    let c-next-useful-index = c .before .before .before .before .before .before .before .before .before .before .before .before .before .before .next-useful-index in
+    let c-find-limits = c .before .before .before .before .before .before .before .before .before .before .before .before .before .find-limits in
+    let c-loop = c .before .before .before .before .before .before .before .before .before .before .loop in
+    let c-loop-test = c .before .before .before .before .before .before .before .before .before .loop-test in
+    let c-loop3 = c .before .before .before .before .before .before .before .before .loop3 in
     let c-loop3-test = c .before .before .before .before .before .before .before .loop3-test in
     let c-inner-match = c .before .before .before .before .before .inner-match in
     let c-found = c .before .before .before .found in
-    let c-least = c .before .least in
-    (c-loop3 .inv .did .stored .sized, (c-loop3 .inv .did .stored .room, nest-fits (c-pre .1 .0) (c-if1 .left) _ (c-loop3 .inv) (c-loop3-test .taken) _ (c-inner-match .ensures) _ (c-found .given .1) (c-least .ensures)))
+    let few = nested-few (c-pre .1 .0) _ _ (c-pre .1 .1 .1) (c-if1 .left) _ _ refl refl _ (c-next-useful-index .ensures) _ (c-find-limits .ensures) (c-loop .inv) (c-loop-test .left)
+    (nest-member (c-pre .1 .0) (c-if1 .left) _ (c-loop3 .inv) (c-loop3-test .taken) _ (c-inner-match .ensures) _ _ (c-found .given .1))
+    (nest-counted (c-pre .1 .0) (c-if1 .left) _ (c-loop3 .inv) (c-loop3-test .taken) _ (c-inner-match .ensures) _ _ (c-found .given .1)) (c-pre .1 .1 .0 .small) in
+    omega (arith, few)
+
+n-keep-requires : (t : ℕ) → N.Need-keep-requires (n-calls t) (n-at t) nested.Post n-Inv2 n-μ2 n-Inv n-μ n-Inv3 n-μ3
+n-keep-requires t c κs =
+    let c-pre = c .before .before .before .before .before .before .before .before .before .before .before .before .before .before .before .before .before .before .before .before .before .before .pre in
+    let c-if1 = c .before .before .before .before .before .before .before .before .before .before .before .before .before .before .before .before .if1 in
+    let c-next-useful-index = c .before .before .before .before .before .before .before .before .before .before .before .before .before .before .before .next-useful-index in
+    let c-find-limits = c .before .before .before .before .before .before .before .before .before .before .before .before .before .before .find-limits in
+    let c-loop = c .before .before .before .before .before .before .before .before .before .before .before .loop in
+    let c-loop-test = c .before .before .before .before .before .before .before .before .before .before .loop-test in
+    let c-loop3 = c .before .before .before .before .before .before .before .before .before .loop3 in
+    let c-loop3-test = c .before .before .before .before .before .before .before .before .loop3-test in
+    let c-inner-match = c .before .before .before .before .before .before .inner-match in
+    let c-found = c .before .before .before .before .found in
+    let c-least = c .before .before .least in
+    let few = nested-few (c-pre .1 .0) _ _ (c-pre .1 .1 .1) (c-if1 .left) _ _ refl refl _ (c-next-useful-index .ensures) _ (c-find-limits .ensures) (c-loop .inv) (c-loop-test .left)
+    (nest-member (c-pre .1 .0) (c-if1 .left) _ (c-loop3 .inv) (c-loop3-test .taken) _ (c-inner-match .ensures) _ _ (c-found .given .1))
+    (nest-counted (c-pre .1 .0) (c-if1 .left) _ (c-loop3 .inv) (c-loop3-test .taken) _ (c-inner-match .ensures) _ _ (c-found .given .1)) (c-pre .1 .1 .0 .small) in
+    (c-loop3 .inv .did .stored .sized, (c-loop3 .inv .did .stored .room, nest-fits (c-pre .1 .0) (c-if1 .left) _ (c-loop3 .inv) (c-loop3-test .taken) _ (c-inner-match .ensures) _ _ (c-found .given .1) (c-least .ensures) (few .0)))
 
 n-enum-told-2 : (t : ℕ) → N.Need-enum-told-2 (n-calls t) (n-at t) nested.Post n-Inv2 n-μ2 n-Inv n-μ n-Inv3 n-μ3
 n-enum-told-2 t c = search needs
@@ -558,26 +589,26 @@ n-enum-told-2 t c = search needs
 n-same-length-2 : (t : ℕ) → N.Need-same-length-2 (n-calls t) (n-at t) nested.Post n-Inv2 n-μ2 n-Inv n-μ n-Inv3 n-μ3
 n-same-length-2 t c =
     let c-keep = c .before .before .before .before .keep in
-    let c-loop3 = c .before .before .before .before .before .before .before .before .before .before .before .before .before .loop3 in
-    let c-pre = c .before .before .before .before .before .before .before .before .before .before .before .before .before .before .before .before .before .before .before .before .before .before .before .before .before .before .pre in
+    let c-loop3 = c .before .before .before .before .before .before .before .before .before .before .before .before .before .before .loop3 in
+    let c-pre = c .before .before .before .before .before .before .before .before .before .before .before .before .before .before .before .before .before .before .before .before .before .before .before .before .before .before .before .pre in
     omega (arith, c-keep .kept, c-loop3 .inv .did .stored .sized, c-pre .1 .0 .stored .sized)
 
 n-returns-3 : (t : ℕ) → N.Need-returns-3 (n-calls t) (n-at t) nested.Post n-Inv2 n-μ2 n-Inv n-μ n-Inv3 n-μ3
 n-returns-3 t c =
-    let c-pre = c .before .before .before .before .before .before .before .before .before .before .before .before .before .before .before .before .before .before .before .before .before .before .before .before .before .before .pre in
-    let c-if1 = c .before .before .before .before .before .before .before .before .before .before .before .before .before .before .before .before .before .before .before .before .if1 in
-    let c-next-useful-index = c .before .before .before .before .before .before .before .before .before .before .before .before .before .before .before .before .before .before .before .next-useful-index in
-    let c-find-limits = c .before .before .before .before .before .before .before .before .before .before .before .before .before .before .before .before .before .before .find-limits in
-    let c-loop = c .before .before .before .before .before .before .before .before .before .before .before .before .before .before .before .loop in
-    let c-loop-test = c .before .before .before .before .before .before .before .before .before .before .before .before .before .before .loop-test in
-    let c-loop3 = c .before .before .before .before .before .before .before .before .before .before .before .before .before .loop3 in
-    let c-loop3-test = c .before .before .before .before .before .before .before .before .before .before .before .before .loop3-test in
-    let c-inner-match = c .before .before .before .before .before .before .before .before .before .before .inner-match in
-    let c-found = c .before .before .before .before .before .before .before .before .found in
+    let c-pre = c .before .before .before .before .before .before .before .before .before .before .before .before .before .before .before .before .before .before .before .before .before .before .before .before .before .before .before .pre in
+    let c-if1 = c .before .before .before .before .before .before .before .before .before .before .before .before .before .before .before .before .before .before .before .before .before .if1 in
+    let c-next-useful-index = c .before .before .before .before .before .before .before .before .before .before .before .before .before .before .before .before .before .before .before .before .next-useful-index in
+    let c-find-limits = c .before .before .before .before .before .before .before .before .before .before .before .before .before .before .before .before .before .before .before .find-limits in
+    let c-loop = c .before .before .before .before .before .before .before .before .before .before .before .before .before .before .before .before .loop in
+    let c-loop-test = c .before .before .before .before .before .before .before .before .before .before .before .before .before .before .before .loop-test in
+    let c-loop3 = c .before .before .before .before .before .before .before .before .before .before .before .before .before .before .loop3 in
+    let c-loop3-test = c .before .before .before .before .before .before .before .before .before .before .before .before .before .loop3-test in
+    let c-inner-match = c .before .before .before .before .before .before .before .before .before .before .before .inner-match in
+    let c-found = c .before .before .before .before .before .before .before .before .before .found in
     let c-enum-told2 = c .enum-told2 in
     let c-keep = c .before .before .before .before .keep in
-    nested-halt (c-pre .1 .0) _ _ (c-pre .1 .1) (c-if1 .left) _ _ refl refl _ (c-next-useful-index .ensures) _ (c-find-limits .ensures) (c-loop .inv) (c-loop-test .left) _
-    (nest-full (c-pre .1 .0) (c-if1 .left) _ (c-loop3 .inv) (c-loop3-test .taken) _ (c-inner-match .ensures) _ (c-found .given .1) (rw (c-enum-told2 .given .1) at (c-keep .ensures .log)))
+    nested-halt (c-pre .1 .0) _ _ (c-pre .1 .1 .1) (c-if1 .left) _ _ refl refl _ (c-next-useful-index .ensures) _ (c-find-limits .ensures) (c-loop .inv) (c-loop-test .left) _
+    (nest-full (c-pre .1 .0) (c-if1 .left) _ (c-loop3 .inv) (c-loop3-test .taken) _ (c-inner-match .ensures) _ _ (c-found .given .1) (rw (c-enum-told2 .given .1) at (c-keep .ensures .log)))
 
 n-enum-known-room : (t : ℕ) → N.Need-enum-known-room (n-calls t) (n-at t) nested.Post n-Inv2 n-μ2 n-Inv n-μ n-Inv3 n-μ3
 n-enum-known-room t c = search needs
@@ -590,26 +621,33 @@ n-set-cursor-index-requires t c κs = search needs
 
 n-match-with-rule-requires-2 : (t : ℕ) → N.Need-match-with-rule-requires-2 (n-calls t) (n-at t) nested.Post n-Inv2 n-μ2 n-Inv n-μ n-Inv3 n-μ3
 n-match-with-rule-requires-2 t c κs =
-    let c-loop3 = c .before .before .before .before .before .before .before .before .before .before .before .before .before .before .before .before .before .loop3 in
-    let c-loop = c .before .before .before .before .before .before .before .before .before .before .before .before .before .before .before .before .before .before .before .loop in
-    let c-pre = c .before .before .before .before .before .before .before .before .before .before .before .before .before .before .before .before .before .before .before .before .before .before .before .before .before .before .before .before .before .before .pre in
-    let c-if1 = c .before .before .before .before .before .before .before .before .before .before .before .before .before .before .before .before .before .before .before .before .before .before .before .before .if1 in
-    let c-loop3-test = c .before .before .before .before .before .before .before .before .before .before .before .before .before .before .before .before .loop3-test in
-    let c-inner-match = c .before .before .before .before .before .before .before .before .before .before .before .before .before .before .inner-match in
-    let c-found = c .before .before .before .before .before .before .before .before .before .before .before .before .found in
-    let c-least = c .before .before .before .before .before .before .before .before .before .before .least in
+    let c-loop3 = c .before .before .before .before .before .before .before .before .before .before .before .before .before .before .before .before .before .before .loop3 in
+    let c-loop = c .before .before .before .before .before .before .before .before .before .before .before .before .before .before .before .before .before .before .before .before .loop in
+    let c-pre = c .before .before .before .before .before .before .before .before .before .before .before .before .before .before .before .before .before .before .before .before .before .before .before .before .before .before .before .before .before .before .before .pre in
+    let c-if1 = c .before .before .before .before .before .before .before .before .before .before .before .before .before .before .before .before .before .before .before .before .before .before .before .before .before .if1 in
+    let c-loop3-test = c .before .before .before .before .before .before .before .before .before .before .before .before .before .before .before .before .before .loop3-test in
+    let c-inner-match = c .before .before .before .before .before .before .before .before .before .before .before .before .before .before .before .inner-match in
+    let c-found = c .before .before .before .before .before .before .before .before .before .before .before .before .before .found in
+    let c-least = c .before .before .before .before .before .before .before .before .before .before .before .least in
     let c-room = c .before .before .before .before .room in
     let c-keep = c .before .before .before .before .before .before .before .before .keep in
     let c-after = c .before .before .after in
-    let c-next-useful-index = c .before .before .before .before .before .before .before .before .before .before .before .before .before .before .before .before .before .before .before .before .before .before .before .next-useful-index in
-    let c-find-limits = c .before .before .before .before .before .before .before .before .before .before .before .before .before .before .before .before .before .before .before .before .before .before .find-limits in
-    let c-loop-test = c .before .before .before .before .before .before .before .before .before .before .before .before .before .before .before .before .before .before .loop-test in
-    let c-set-cursor-index = c .before .set-cursor-index in (
+    let c-next-useful-index = c .before .before .before .before .before .before .before .before .before .before .before .before .before .before .before .before .before .before .before .before .before .before .before .before .next-useful-index in
+    let c-find-limits = c .before .before .before .before .before .before .before .before .before .before .before .before .before .before .before .before .before .before .before .before .before .before .before .find-limits in
+    let c-loop-test = c .before .before .before .before .before .before .before .before .before .before .before .before .before .before .before .before .before .before .before .loop-test in
+    let c-set-cursor-index = c .before .set-cursor-index in
+    let few = nested-few (c-pre .1 .0) _ _ (c-pre .1 .1 .1) (c-if1 .left) _ _ refl refl _ (c-next-useful-index .ensures) _ (c-find-limits .ensures) (c-loop .inv) (c-loop-test .left)
+    (nest-member (c-pre .1 .0) (c-if1 .left) _ (c-loop3 .inv) (c-loop3-test .taken) _ (c-inner-match .ensures) _ _ (c-found .given .1))
+    (nest-counted (c-pre .1 .0) (c-if1 .left) _ (c-loop3 .inv) (c-loop3-test .taken) _ (c-inner-match .ensures) _ _ (c-found .given .1)) (c-pre .1 .1 .0 .small) in
+    let within = nested-within (c-pre .1 .0) _ _ (c-pre .1 .1 .1) (c-if1 .left) _ _ refl refl _ (c-next-useful-index .ensures) _ (c-find-limits .ensures) (c-loop .inv) (c-loop-test .left)
+    (nest-member (c-pre .1 .0) (c-if1 .left) _ (c-loop3 .inv) (c-loop3-test .taken) _ (c-inner-match .ensures) _ _ (c-found .given .1)) .0 in
+    let (since, grown) = nested-since (c-pre .1 .0) _ _ (c-pre .1 .1 .1) (c-if1 .left) _ _ refl refl _ (c-next-useful-index .ensures) _ (c-find-limits .ensures) (c-loop .inv) (c-loop-test .left) in (
       omega (arith, c-loop3 .inv .did .falls, c-loop .inv .falls, c-pre .0),
-      nest-ready (c-pre .1 .0) (c-if1 .left) _ (c-loop3 .inv) (c-loop3-test .taken) _ (c-inner-match .ensures) _ (c-found .given .1) _ (c-least .ensures) _ _ (rw (c-room .given .1) at (c-keep .ensures .log)) (c-after .ensures)
-          (nested-within (c-pre .1 .0) _ _ (c-pre .1 .1) (c-if1 .left) _ _ refl refl _ (c-next-useful-index .ensures) _ (c-find-limits .ensures) (c-loop .inv) (c-loop-test .left)
-          (nest-member (c-pre .1 .0) (c-if1 .left) _ (c-loop3 .inv) (c-loop3-test .taken) _ (c-inner-match .ensures) _ (c-found .given .1)))
-          (omega (arith, c-keep .kept, c-loop3 .inv .did .stored .sized)) (c-set-cursor-index .ensures),
+      (
+        nest-ready (c-pre .1 .0) (c-if1 .left) _ (c-loop3 .inv) (c-loop3-test .taken) _ (c-inner-match .ensures) _ _ (c-found .given .1) _ (c-least .ensures) _ refl _ _ (rw (c-room .given .1) at (c-keep .ensures .log)) (c-after .ensures) within (omega (arith, c-keep .kept, c-loop3 .inv .did .stored .sized))
+            (nest-kept (c-pre .1 .0) (c-if1 .left) _ (c-loop3 .inv) (c-loop3-test .taken) _ (c-inner-match .ensures) _ _ (c-found .given .1) _ (c-least .ensures) _ refl _ _ (rw (c-room .given .1) at (c-keep .ensures .log)) (c-pre .1 .1 .0) since grown) (c-set-cursor-index .ensures),
+        nest-stands (c-pre .1 .0) (c-if1 .left) _ (c-loop3 .inv) (c-loop3-test .taken) _ (c-inner-match .ensures) _ _ (c-found .given .1) _ (c-least .ensures) _ refl _ _ (rw (c-room .given .1) at (c-keep .ensures .log)) (c-pre .1 .1 .0) since grown (c-after .ensures) within (few .0) (c-set-cursor-index .ensures),
+      ),
     )
 
 n-enum-known-got-3 : (t : ℕ) → N.Need-enum-known-got-3 (n-calls t) (n-at t) nested.Post n-Inv2 n-μ2 n-Inv n-μ n-Inv3 n-μ3
@@ -617,31 +655,31 @@ n-enum-known-got-3 t c = search needs
 
 n-loop3-less-2 : (t : ℕ) → N.Need-loop3-less-2 (n-calls t) (n-at t) nested.Post n-Inv2 n-μ2 n-Inv n-μ n-Inv3 n-μ3
 n-loop3-less-2 t c =
-    let c-loop3-test = c .before .before .before .before .before .before .before .before .before .before .before .before .before .before .before .before .before .before .before .before .before .before .loop3-test in
+    let c-loop3-test = c .before .before .before .before .before .before .before .before .before .before .before .before .before .before .before .before .before .before .before .before .before .before .before .loop3-test in
     omega (arith, c-loop3-test .taken)
 
 n-loop3-again-2 : (t : ℕ) → N.Need-loop3-again-2 (n-calls t) (n-at t) nested.Post n-Inv2 n-μ2 n-Inv n-μ n-Inv3 n-μ3
 n-loop3-again-2 t c =
-    let c-pre = c .before .before .before .before .before .before .before .before .before .before .before .before .before .before .before .before .before .before .before .before .before .before .before .before .before .before .before .before .before .before .before .before .before .before .before .before .pre in
-    let c-if1 = c .before .before .before .before .before .before .before .before .before .before .before .before .before .before .before .before .before .before .before .before .before .before .before .before .before .before .before .before .before .before .if1 in
-    let c-loop3 = c .before .before .before .before .before .before .before .before .before .before .before .before .before .before .before .before .before .before .before .before .before .before .before .loop3 in
-    let c-loop3-test = c .before .before .before .before .before .before .before .before .before .before .before .before .before .before .before .before .before .before .before .before .before .before .loop3-test in
-    let c-inner-match = c .before .before .before .before .before .before .before .before .before .before .before .before .before .before .before .before .before .before .before .before .inner-match in
-    let c-found = c .before .before .before .before .before .before .before .before .before .before .before .before .before .before .before .before .before .before .found in
-    let c-least = c .before .before .before .before .before .before .before .before .before .before .before .before .before .before .before .before .least in
+    let c-pre = c .before .before .before .before .before .before .before .before .before .before .before .before .before .before .before .before .before .before .before .before .before .before .before .before .before .before .before .before .before .before .before .before .before .before .before .before .before .pre in
+    let c-if1 = c .before .before .before .before .before .before .before .before .before .before .before .before .before .before .before .before .before .before .before .before .before .before .before .before .before .before .before .before .before .before .before .if1 in
+    let c-loop3 = c .before .before .before .before .before .before .before .before .before .before .before .before .before .before .before .before .before .before .before .before .before .before .before .before .loop3 in
+    let c-loop3-test = c .before .before .before .before .before .before .before .before .before .before .before .before .before .before .before .before .before .before .before .before .before .before .before .loop3-test in
+    let c-inner-match = c .before .before .before .before .before .before .before .before .before .before .before .before .before .before .before .before .before .before .before .before .before .inner-match in
+    let c-found = c .before .before .before .before .before .before .before .before .before .before .before .before .before .before .before .before .before .before .before .found in
+    let c-least = c .before .before .before .before .before .before .before .before .before .before .before .before .before .before .before .before .before .least in
     let c-room = c .before .before .before .before .before .before .before .before .before .before .room in
     let c-keep = c .before .before .before .before .before .before .before .before .before .before .before .before .before .before .keep in
     let c-after = c .before .before .before .before .before .before .before .before .after in
-    let c-next-useful-index = c .before .before .before .before .before .before .before .before .before .before .before .before .before .before .before .before .before .before .before .before .before .before .before .before .before .before .before .before .before .next-useful-index in
-    let c-find-limits = c .before .before .before .before .before .before .before .before .before .before .before .before .before .before .before .before .before .before .before .before .before .before .before .before .before .before .before .before .find-limits in
-    let c-loop = c .before .before .before .before .before .before .before .before .before .before .before .before .before .before .before .before .before .before .before .before .before .before .before .before .before .loop in
-    let c-loop-test = c .before .before .before .before .before .before .before .before .before .before .before .before .before .before .before .before .before .before .before .before .before .before .before .before .loop-test in
+    let c-next-useful-index = c .before .before .before .before .before .before .before .before .before .before .before .before .before .before .before .before .before .before .before .before .before .before .before .before .before .before .before .before .before .before .next-useful-index in
+    let c-find-limits = c .before .before .before .before .before .before .before .before .before .before .before .before .before .before .before .before .before .before .before .before .before .before .before .before .before .before .before .before .before .find-limits in
+    let c-loop = c .before .before .before .before .before .before .before .before .before .before .before .before .before .before .before .before .before .before .before .before .before .before .before .before .before .before .loop in
+    let c-loop-test = c .before .before .before .before .before .before .before .before .before .before .before .before .before .before .before .before .before .before .before .before .before .before .before .before .before .loop-test in
     let c-set-cursor-index = c .before .before .before .before .before .before .before .set-cursor-index in
     let c-match-with-rule2 = c .before .before .before .before .before .match-with-rule2 in
     let c-got3 = c .before .got3 in
-    nest-again (c-pre .1 .0) (c-if1 .left) _ (c-loop3 .inv) (c-loop3-test .taken) _ (c-inner-match .ensures) _ (c-found .given .1) _ (c-least .ensures) _ _ (rw (c-room .given .1) at (c-keep .ensures .log)) (c-after .ensures)
-    (nested-within (c-pre .1 .0) _ _ (c-pre .1 .1) (c-if1 .left) _ _ refl refl _ (c-next-useful-index .ensures) _ (c-find-limits .ensures) (c-loop .inv) (c-loop-test .left)
-    (nest-member (c-pre .1 .0) (c-if1 .left) _ (c-loop3 .inv) (c-loop3-test .taken) _ (c-inner-match .ensures) _ (c-found .given .1)))
+    nest-again (c-pre .1 .0) (c-if1 .left) _ (c-loop3 .inv) (c-loop3-test .taken) _ (c-inner-match .ensures) _ _ (c-found .given .1) _ (c-least .ensures) _ refl _ _ (rw (c-room .given .1) at (c-keep .ensures .log)) (c-after .ensures)
+    (nested-within (c-pre .1 .0) _ _ (c-pre .1 .1 .1) (c-if1 .left) _ _ refl refl _ (c-next-useful-index .ensures) _ (c-find-limits .ensures) (c-loop .inv) (c-loop-test .left)
+    (nest-member (c-pre .1 .0) (c-if1 .left) _ (c-loop3 .inv) (c-loop3-test .taken) _ (c-inner-match .ensures) _ _ (c-found .given .1)) .0)
     (c-set-cursor-index .ensures) (c-match-with-rule2 .ensures) (c-got3 .given .1)
     (omega (arith, c-match-with-rule2 .kept, c-keep .kept, c-loop3 .inv .did .stored .sized))
 
@@ -652,33 +690,33 @@ n-same-length-3 : (t : ℕ) → N.Need-same-length-3 (n-calls t) (n-at t) nested
 n-same-length-3 t c =
     let c-match-with-rule2 = c .before .before .before .before .before .match-with-rule2 in
     let c-keep = c .before .before .before .before .before .before .before .before .before .before .before .before .before .before .keep in
-    let c-loop3 = c .before .before .before .before .before .before .before .before .before .before .before .before .before .before .before .before .before .before .before .before .before .before .before .loop3 in
-    let c-pre = c .before .before .before .before .before .before .before .before .before .before .before .before .before .before .before .before .before .before .before .before .before .before .before .before .before .before .before .before .before .before .before .before .before .before .before .before .pre in
+    let c-loop3 = c .before .before .before .before .before .before .before .before .before .before .before .before .before .before .before .before .before .before .before .before .before .before .before .before .loop3 in
+    let c-pre = c .before .before .before .before .before .before .before .before .before .before .before .before .before .before .before .before .before .before .before .before .before .before .before .before .before .before .before .before .before .before .before .before .before .before .before .before .before .pre in
     omega (arith, c-match-with-rule2 .kept, c-keep .kept, c-loop3 .inv .did .stored .sized, c-pre .1 .0 .stored .sized)
 
 n-returns-4 : (t : ℕ) → N.Need-returns-4 (n-calls t) (n-at t) nested.Post n-Inv2 n-μ2 n-Inv n-μ n-Inv3 n-μ3
 n-returns-4 t c =
-    let c-pre = c .before .before .before .before .before .before .before .before .before .before .before .before .before .before .before .before .before .before .before .before .before .before .before .before .before .before .before .before .before .before .before .before .before .before .before .before .pre in
-    let c-if1 = c .before .before .before .before .before .before .before .before .before .before .before .before .before .before .before .before .before .before .before .before .before .before .before .before .before .before .before .before .before .before .if1 in
-    let c-next-useful-index = c .before .before .before .before .before .before .before .before .before .before .before .before .before .before .before .before .before .before .before .before .before .before .before .before .before .before .before .before .before .next-useful-index in
-    let c-find-limits = c .before .before .before .before .before .before .before .before .before .before .before .before .before .before .before .before .before .before .before .before .before .before .before .before .before .before .before .before .find-limits in
-    let c-loop = c .before .before .before .before .before .before .before .before .before .before .before .before .before .before .before .before .before .before .before .before .before .before .before .before .before .loop in
-    let c-loop-test = c .before .before .before .before .before .before .before .before .before .before .before .before .before .before .before .before .before .before .before .before .before .before .before .before .loop-test in
-    let c-loop3 = c .before .before .before .before .before .before .before .before .before .before .before .before .before .before .before .before .before .before .before .before .before .before .before .loop3 in
-    let c-loop3-test = c .before .before .before .before .before .before .before .before .before .before .before .before .before .before .before .before .before .before .before .before .before .before .loop3-test in
-    let c-inner-match = c .before .before .before .before .before .before .before .before .before .before .before .before .before .before .before .before .before .before .before .before .inner-match in
-    let c-found = c .before .before .before .before .before .before .before .before .before .before .before .before .before .before .before .before .before .before .found in
-    let c-least = c .before .before .before .before .before .before .before .before .before .before .before .before .before .before .before .before .least in
+    let c-pre = c .before .before .before .before .before .before .before .before .before .before .before .before .before .before .before .before .before .before .before .before .before .before .before .before .before .before .before .before .before .before .before .before .before .before .before .before .before .pre in
+    let c-if1 = c .before .before .before .before .before .before .before .before .before .before .before .before .before .before .before .before .before .before .before .before .before .before .before .before .before .before .before .before .before .before .before .if1 in
+    let c-next-useful-index = c .before .before .before .before .before .before .before .before .before .before .before .before .before .before .before .before .before .before .before .before .before .before .before .before .before .before .before .before .before .before .next-useful-index in
+    let c-find-limits = c .before .before .before .before .before .before .before .before .before .before .before .before .before .before .before .before .before .before .before .before .before .before .before .before .before .before .before .before .before .find-limits in
+    let c-loop = c .before .before .before .before .before .before .before .before .before .before .before .before .before .before .before .before .before .before .before .before .before .before .before .before .before .before .loop in
+    let c-loop-test = c .before .before .before .before .before .before .before .before .before .before .before .before .before .before .before .before .before .before .before .before .before .before .before .before .before .loop-test in
+    let c-loop3 = c .before .before .before .before .before .before .before .before .before .before .before .before .before .before .before .before .before .before .before .before .before .before .before .before .loop3 in
+    let c-loop3-test = c .before .before .before .before .before .before .before .before .before .before .before .before .before .before .before .before .before .before .before .before .before .before .before .loop3-test in
+    let c-inner-match = c .before .before .before .before .before .before .before .before .before .before .before .before .before .before .before .before .before .before .before .before .before .inner-match in
+    let c-found = c .before .before .before .before .before .before .before .before .before .before .before .before .before .before .before .before .before .before .before .found in
+    let c-least = c .before .before .before .before .before .before .before .before .before .before .before .before .before .before .before .before .before .least in
     let c-room = c .before .before .before .before .before .before .before .before .before .before .room in
     let c-keep = c .before .before .before .before .before .before .before .before .before .before .before .before .before .before .keep in
     let c-after = c .before .before .before .before .before .before .before .before .after in
     let c-set-cursor-index = c .before .before .before .before .before .before .before .set-cursor-index in
     let c-match-with-rule2 = c .before .before .before .before .before .match-with-rule2 in
     let c-got4 = c .before .got4 in
-    nested-halt (c-pre .1 .0) _ _ (c-pre .1 .1) (c-if1 .left) _ _ refl refl _ (c-next-useful-index .ensures) _ (c-find-limits .ensures) (c-loop .inv) (c-loop-test .left) _
-    (nest-halt (c-pre .1 .0) (c-if1 .left) _ (c-loop3 .inv) (c-loop3-test .taken) _ (c-inner-match .ensures) _ (c-found .given .1) _ (c-least .ensures) _ _ (rw (c-room .given .1) at (c-keep .ensures .log)) (c-after .ensures)
-    (nested-within (c-pre .1 .0) _ _ (c-pre .1 .1) (c-if1 .left) _ _ refl refl _ (c-next-useful-index .ensures) _ (c-find-limits .ensures) (c-loop .inv) (c-loop-test .left)
-    (nest-member (c-pre .1 .0) (c-if1 .left) _ (c-loop3 .inv) (c-loop3-test .taken) _ (c-inner-match .ensures) _ (c-found .given .1)))
+    nested-halt (c-pre .1 .0) _ _ (c-pre .1 .1 .1) (c-if1 .left) _ _ refl refl _ (c-next-useful-index .ensures) _ (c-find-limits .ensures) (c-loop .inv) (c-loop-test .left) _
+    (nest-halt (c-pre .1 .0) (c-if1 .left) _ (c-loop3 .inv) (c-loop3-test .taken) _ (c-inner-match .ensures) _ _ (c-found .given .1) _ (c-least .ensures) _ refl _ _ (rw (c-room .given .1) at (c-keep .ensures .log)) (c-after .ensures)
+    (nested-within (c-pre .1 .0) _ _ (c-pre .1 .1 .1) (c-if1 .left) _ _ refl refl _ (c-next-useful-index .ensures) _ (c-find-limits .ensures) (c-loop .inv) (c-loop-test .left)
+    (nest-member (c-pre .1 .0) (c-if1 .left) _ (c-loop3 .inv) (c-loop3-test .taken) _ (c-inner-match .ensures) _ _ (c-found .given .1)) .0)
     (c-set-cursor-index .ensures) (c-match-with-rule2 .ensures) (c-got4 .given .1))
 
 n-same-length-4 : (t : ℕ) → N.Need-same-length-4 (n-calls t) (n-at t) nested.Post n-Inv2 n-μ2 n-Inv n-μ n-Inv3 n-μ3
@@ -697,7 +735,7 @@ n-returns-5 t c =
     let c-loop-test = c .before .before .loop-test in
     let c-loop3 = c .before .loop3 in
     let c-loop3-test = c .loop3-test in
-    nested-done (c-pre .1 .0) _ _ (c-pre .1 .1) (c-if1 .left) _ _ refl refl _ (c-next-useful-index .ensures) _ (c-find-limits .ensures) (c-loop .inv) (c-loop-test .left) _ (c-loop3 .inv) (c-loop3-test .left)
+    nested-done (c-pre .1 .0) _ _ (c-pre .1 .1 .1) (c-if1 .left) _ _ refl refl _ (c-next-useful-index .ensures) _ (c-find-limits .ensures) (c-loop .inv) (c-loop-test .left) _ (c-loop3 .inv) (c-loop3-test .left)
 
 r-get-cursor-index-requires : (t : ℕ) → R.Need-get-cursor-index-requires (r-calls t) (r-at t) rule.Post r-Inv r-μ
 r-get-cursor-index-requires t c κs = search needs
@@ -710,7 +748,7 @@ r-loop-holds t c =
     let c-pre = c .before .before .before .before .before .before .before .pre in
     let c-get-cursor-index = c .before .get-cursor-index in
     let c-set-cursor-index = c .set-cursor-index in
-    along-start (begun-ready (c-pre .1) (c-get-cursor-index .ensures) (c-set-cursor-index .ensures)) _
+    along-start (begun-ready (c-pre .1 .0) (c-get-cursor-index .ensures) (c-set-cursor-index .ensures)) _ (begun-stands (c-pre .1 .0) (c-get-cursor-index .ensures) (c-set-cursor-index .ensures) (c-pre .1 .1))
 
 r-same-length : (t : ℕ) → R.Need-same-length (r-calls t) (r-at t) rule.Post r-Inv r-μ
 r-same-length t c =
@@ -724,7 +762,7 @@ r-returns t c =
     let c-set-cursor-index = c .before .before .set-cursor-index in
     let c-loop = c .before .loop in
     let c-if1 = c .if1 in
-    begun-left (c-pre .1) (c-get-cursor-index .ensures) (c-set-cursor-index .ensures) _ (along-spent (begun-ready (c-pre .1) (c-get-cursor-index .ensures) (c-set-cursor-index .ensures)) _ (c-loop .inv) (c-if1 .taken))
+    begun-left (c-pre .1 .0) (c-get-cursor-index .ensures) (c-set-cursor-index .ensures) _ (along-spent (begun-ready (c-pre .1 .0) (c-get-cursor-index .ensures) (c-set-cursor-index .ensures)) _ (c-loop .inv) (c-if1 .taken))
 
 r-sub-left : (t : ℕ) → R.Need-sub-left (r-calls t) (r-at t) rule.Post r-Inv r-μ
 r-sub-left t c = search needs
@@ -735,7 +773,7 @@ r-finish-requires t c κs =
     let c-get-cursor-index = c .before .before .before .before .before .get-cursor-index in
     let c-set-cursor-index = c .before .before .before .before .set-cursor-index in
     let c-loop = c .before .before .before .loop in
-    (along-stored (begun-ready (c-pre .1) (c-get-cursor-index .ensures) (c-set-cursor-index .ensures)) _ (c-loop .inv), (c-pre .1 .sets, (c-pre .1 .rules, (c-pre .1 .depth, (c-pre .1 .last, (omega (arith, c-loop .inv .inside, (begun-ready (c-pre .1) (c-get-cursor-index .ensures) (c-set-cursor-index .ensures)) .limit, c-pre .1 .short), (omega (arith, c-loop .inv .inside, c-loop .inv .under), λ z. c-loop .inv .under ∙ (begun-ready (c-pre .1) (c-get-cursor-index .ensures) (c-set-cursor-index .ensures)) .top z)))))))
+    (along-stored (begun-ready (c-pre .1 .0) (c-get-cursor-index .ensures) (c-set-cursor-index .ensures)) _ (c-loop .inv), (c-pre .1 .0 .sets, (c-pre .1 .0 .rules, (c-pre .1 .0 .depth, (c-pre .1 .0 .last, (omega (arith, c-loop .inv .inside, (begun-ready (c-pre .1 .0) (c-get-cursor-index .ensures) (c-set-cursor-index .ensures)) .limit, c-pre .1 .0 .short), (omega (arith, c-loop .inv .inside, c-loop .inv .under), ((λ z. c-loop .inv .under ∙ (begun-ready (c-pre .1 .0) (c-get-cursor-index .ensures) (c-set-cursor-index .ensures)) .top z), along-small (begun-ready (c-pre .1 .0) (c-get-cursor-index .ensures) (c-set-cursor-index .ensures)) _ (c-loop .inv)))))))))
 
 r-same-length-2 : (t : ℕ) → R.Need-same-length-2 (r-calls t) (r-at t) rule.Post r-Inv r-μ
 r-same-length-2 t c =
@@ -752,7 +790,7 @@ r-returns-2 t c =
     let c-if1 = c .before .before .before .before .before .if1 in
     let c-if2 = c .before .before .before .before .if2 in
     let c-finish = c .before .before .finish in
-    begun-left (c-pre .1) (c-get-cursor-index .ensures) (c-set-cursor-index .ensures) _ (along-end (begun-ready (c-pre .1) (c-get-cursor-index .ensures) (c-set-cursor-index .ensures)) _ (c-loop .inv) (c-if1 .left) (c-if2 .taken) (c-finish .ensures))
+    begun-left (c-pre .1 .0) (c-get-cursor-index .ensures) (c-set-cursor-index .ensures) _ (along-end (begun-ready (c-pre .1 .0) (c-get-cursor-index .ensures) (c-set-cursor-index .ensures)) _ (c-loop .inv) (c-if1 .left) (c-if2 .taken) (c-finish .ensures _ (along-ended (begun-ready (c-pre .1 .0) (c-get-cursor-index .ensures) (c-set-cursor-index .ensures)) _ (c-loop .inv) (c-if2 .taken))))
 
 r-part-at-requires : (t : ℕ) → R.Need-part-at-requires (r-calls t) (r-at t) rule.Post r-Inv r-μ
 r-part-at-requires t c κs = search needs
@@ -772,6 +810,14 @@ r-maybe-expect-char-requires t c κs = search needs
 r-enum-known-step : (t : ℕ) → R.Need-enum-known-step (r-calls t) (r-at t) rule.Post r-Inv r-μ
 r-enum-known-step t c = search needs
 
+r-add-count : (t : ℕ) → R.Need-add-count (r-calls t) (r-at t) rule.Post r-Inv r-μ
+r-add-count t c =
+    let c-pre = c .before .before .before .before .before .before .before .before .before .before .before .before .before .before .before .before .before .before .pre in
+    let c-get-cursor-index = c .before .before .before .before .before .before .before .before .before .before .before .before .get-cursor-index in
+    let c-set-cursor-index = c .before .before .before .before .before .before .before .before .before .before .before .set-cursor-index in
+    let c-loop = c .before .before .before .before .before .before .before .before .before .before .loop in
+    omega (arith, along-small (begun-ready (c-pre .1 .0) (c-get-cursor-index .ensures) (c-set-cursor-index .ensures)) _ (c-loop .inv))
+
 r-loop-less : (t : ℕ) → R.Need-loop-less (r-calls t) (r-at t) rule.Post r-Inv r-μ
 r-loop-less t c =
     let c-if1 = c .before .before .before .before .before .before .before .before .before .if1 in
@@ -789,7 +835,7 @@ r-loop-again t c =
     let c-part = c .before .before .before .before .before .part in
     let c-maybe-expect-char = c .before .before .before .maybe-expect-char in
     let c-step = c .before .step in
-    along-exact (begun-ready (c-pre .1) (c-get-cursor-index .ensures) (c-set-cursor-index .ensures)) _ (c-loop .inv) (c-if1 .left) (c-if2 .left) _ (c-part-at .ensures) (c-part .given .1) _ (c-maybe-expect-char .ensures) (c-step .given .1)
+    along-exact (begun-ready (c-pre .1 .0) (c-get-cursor-index .ensures) (c-set-cursor-index .ensures)) _ (c-loop .inv) (c-if1 .left) (c-if2 .left) _ (c-part-at .ensures) (c-part .given .1) _ (c-maybe-expect-char .ensures) (c-step .given .1)
 
 r-enum-told : (t : ℕ) → R.Need-enum-told (r-calls t) (r-at t) rule.Post r-Inv r-μ
 r-enum-told t c = search needs
@@ -811,7 +857,7 @@ r-returns-3 t c =
     let c-part = c .before .before .before .before .part in
     let c-maybe-expect-char = c .before .before .maybe-expect-char in
     let c-enum-told = c .enum-told in
-    begun-left (c-pre .1) (c-get-cursor-index .ensures) (c-set-cursor-index .ensures) _ (along-no-exact (begun-ready (c-pre .1) (c-get-cursor-index .ensures) (c-set-cursor-index .ensures)) _ (c-loop .inv) (c-if1 .left) (c-if2 .left) _ (c-part-at .ensures) (c-part .given .1) _ (c-maybe-expect-char .ensures) (c-enum-told .given .1))
+    begun-left (c-pre .1 .0) (c-get-cursor-index .ensures) (c-set-cursor-index .ensures) _ (along-no-exact (begun-ready (c-pre .1 .0) (c-get-cursor-index .ensures) (c-set-cursor-index .ensures)) _ (c-loop .inv) (c-if1 .left) (c-if2 .left) _ (c-part-at .ensures) (c-part .given .1) _ (c-maybe-expect-char .ensures) (c-enum-told .given .1))
 
 r-enum-told-2 : (t : ℕ) → R.Need-enum-told-2 (r-calls t) (r-at t) rule.Post r-Inv r-μ
 r-enum-told-2 t c = search needs
@@ -839,7 +885,7 @@ r-loop-again-2 t c =
     let c-enum-told2 = c .before .before .before .before .enum-told2 in
     let c-maybe-expect-whitespace = c .before .before .before .maybe-expect-whitespace in
     let c-step2 = c .before .step2 in
-    along-whitespace (begun-ready (c-pre .1) (c-get-cursor-index .ensures) (c-set-cursor-index .ensures)) _ (c-loop .inv) (c-if1 .left) (c-if2 .left) _ (c-part-at .ensures) (c-enum-told2 .given .1) _ (c-maybe-expect-whitespace .ensures) (c-step2 .given .1)
+    along-whitespace (begun-ready (c-pre .1 .0) (c-get-cursor-index .ensures) (c-set-cursor-index .ensures)) _ (c-loop .inv) (c-if1 .left) (c-if2 .left) _ (c-part-at .ensures) (c-enum-told2 .given .1) _ (c-maybe-expect-whitespace .ensures) (c-step2 .given .1)
 
 r-enum-told-3 : (t : ℕ) → R.Need-enum-told-3 (r-calls t) (r-at t) rule.Post r-Inv r-μ
 r-enum-told-3 t c = search needs
@@ -861,7 +907,7 @@ r-returns-4 t c =
     let c-enum-told2 = c .before .before .before .enum-told2 in
     let c-maybe-expect-whitespace = c .before .before .maybe-expect-whitespace in
     let c-enum-told3 = c .enum-told3 in
-    begun-left (c-pre .1) (c-get-cursor-index .ensures) (c-set-cursor-index .ensures) _ (along-no-whitespace (begun-ready (c-pre .1) (c-get-cursor-index .ensures) (c-set-cursor-index .ensures)) _ (c-loop .inv) (c-if1 .left) (c-if2 .left) _ (c-part-at .ensures) (c-enum-told2 .given .1) _ (c-maybe-expect-whitespace .ensures) (c-enum-told3 .given .1))
+    begun-left (c-pre .1 .0) (c-get-cursor-index .ensures) (c-set-cursor-index .ensures) _ (along-no-whitespace (begun-ready (c-pre .1 .0) (c-get-cursor-index .ensures) (c-set-cursor-index .ensures)) _ (c-loop .inv) (c-if1 .left) (c-if2 .left) _ (c-part-at .ensures) (c-enum-told2 .given .1) _ (c-maybe-expect-whitespace .ensures) (c-enum-told3 .given .1))
 
 r-enum-told-4 : (t : ℕ) → R.Need-enum-told-4 (r-calls t) (r-at t) rule.Post r-Inv r-μ
 r-enum-told-4 t c = search needs
@@ -871,6 +917,7 @@ r-past-requires t c κs = search needs
 
 r-match-with-expr-requires : (t : ℕ) → R.Need-match-with-expr-requires (r-calls t) (r-at t) rule.Post r-Inv r-μ
 r-match-with-expr-requires t c κs =
+    let c-enum-told4 = c .before .before .enum-told4 in
     let c-loop = c .before .before .before .before .before .before .before .loop in
     let c-if1 = c .before .before .before .before .before .before .if1 in
     let c-pre = c .before .before .before .before .before .before .before .before .before .before .before .before .before .before .before .pre in
@@ -879,7 +926,7 @@ r-match-with-expr-requires t c κs =
     let c-if2 = c .before .before .before .before .before .if2 in
     let c-part-at = c .before .before .before .before .part-at in
     let c-past = c .before .past in
-    (omega (arith, c-loop .inv .falls, c-if1 .left, c-pre .0), step-ready (begun-ready (c-pre .1) (c-get-cursor-index .ensures) (c-set-cursor-index .ensures)) _ (c-loop .inv) (c-if1 .left) (c-if2 .left) _ (c-part-at .ensures) (c-past .ensures))
+    (omega (arith, c-loop .inv .falls, c-if1 .left, c-pre .0), (step-ready (begun-ready (c-pre .1 .0) (c-get-cursor-index .ensures) (c-set-cursor-index .ensures)) _ (c-loop .inv) (c-if1 .left) (c-if2 .left) _ (c-part-at .ensures) (c-past .ensures), step-stands (begun-ready (c-pre .1 .0) (c-get-cursor-index .ensures) (c-set-cursor-index .ensures)) _ (c-loop .inv) (c-if1 .left) (c-if2 .left) _ (c-part-at .ensures) (c-enum-told4 .given .1) (c-past .ensures)))
 
 r-same-length-5 : (t : ℕ) → R.Need-same-length-5 (r-calls t) (r-at t) rule.Post r-Inv r-μ
 r-same-length-5 t c =
@@ -899,7 +946,7 @@ r-returns-5 t c =
     let c-enum-told4 = c .before .before .before .before .before .enum-told4 in
     let c-past = c .before .before .before .before .past in
     let c-match-with-expr = c .before .before .match-with-expr in
-    begun-left (c-pre .1) (c-get-cursor-index .ensures) (c-set-cursor-index .ensures) _ (along-expression (begun-ready (c-pre .1) (c-get-cursor-index .ensures) (c-set-cursor-index .ensures)) _ (c-loop .inv) (c-if1 .left) (c-if2 .left) _ (c-part-at .ensures) (c-enum-told4 .given .1) (c-past .ensures) (c-match-with-expr .ensures))
+    begun-left (c-pre .1 .0) (c-get-cursor-index .ensures) (c-set-cursor-index .ensures) _ (along-expression (begun-ready (c-pre .1 .0) (c-get-cursor-index .ensures) (c-set-cursor-index .ensures)) _ (c-loop .inv) (c-if1 .left) (c-if2 .left) _ (c-part-at .ensures) (c-enum-told4 .given .1) (c-past .ensures) (c-match-with-expr .ensures))
 
 r-enum-known-part-2 : (t : ℕ) → R.Need-enum-known-part-2 (r-calls t) (r-at t) rule.Post r-Inv r-μ
 r-enum-known-part-2 t c = search needs
@@ -920,7 +967,7 @@ r-match-with-nested-ruledef-requires t c κs =
     let c-args = c .before .before .before .before .before .before .before .before .before .before .before .before .before .before .before .before .args in
     let c-part2 = c .before .before .before .part2 in (
       omega (arith, c-loop .inv .falls, c-if1 .left, c-pre .0),
-      (step-ready (begun-ready (c-pre .1) (c-get-cursor-index .ensures) (c-set-cursor-index .ensures)) _ (c-loop .inv) (c-if1 .left) (c-if2 .left) _ (c-part-at .ensures) (c-past2 .ensures), ruleset-few (begun-ready (c-pre .1) (c-get-cursor-index .ensures) (c-set-cursor-index .ensures)) (c-args .visits) (c-loop .inv) (c-if1 .left) (c-if2 .left) _ (c-part-at .ensures) (c-part2 .given .1)),
+      (step-ready (begun-ready (c-pre .1 .0) (c-get-cursor-index .ensures) (c-set-cursor-index .ensures)) _ (c-loop .inv) (c-if1 .left) (c-if2 .left) _ (c-part-at .ensures) (c-past2 .ensures), (step-stands (begun-ready (c-pre .1 .0) (c-get-cursor-index .ensures) (c-set-cursor-index .ensures)) _ (c-loop .inv) (c-if1 .left) (c-if2 .left) _ (c-part-at .ensures) (c-part2 .given .1) (c-past2 .ensures), ruleset-few (begun-ready (c-pre .1 .0) (c-get-cursor-index .ensures) (c-set-cursor-index .ensures)) (c-args .visits) (c-loop .inv) (c-if1 .left) (c-if2 .left) _ (c-part-at .ensures) (c-part2 .given .1))),
     )
 
 r-same-length-6 : (t : ℕ) → R.Need-same-length-6 (r-calls t) (r-at t) rule.Post r-Inv r-μ
@@ -941,7 +988,7 @@ r-returns-6 t c =
     let c-part2 = c .before .before .before .before .before .before .part2 in
     let c-past2 = c .before .before .before .before .past2 in
     let c-match-with-nested-ruledef = c .before .before .match-with-nested-ruledef in
-    begun-left (c-pre .1) (c-get-cursor-index .ensures) (c-set-cursor-index .ensures) _ (along-nested (begun-ready (c-pre .1) (c-get-cursor-index .ensures) (c-set-cursor-index .ensures)) _ (c-loop .inv) (c-if1 .left) (c-if2 .left) _ (c-part-at .ensures) (c-part2 .given .1) (c-past2 .ensures) (c-match-with-nested-ruledef .ensures))
+    begun-left (c-pre .1 .0) (c-get-cursor-index .ensures) (c-set-cursor-index .ensures) _ (along-nested (begun-ready (c-pre .1 .0) (c-get-cursor-index .ensures) (c-set-cursor-index .ensures)) _ (c-loop .inv) (c-if1 .left) (c-if2 .left) _ (c-part-at .ensures) (c-part2 .given .1) (c-past2 .ensures) (c-match-with-nested-ruledef .ensures))
 
 pub +match-with-expr+match-with-nested-ruledef+match-with-rule-spec : {M : Type 1} → statement M
 +match-with-expr+match-with-nested-ruledef+match-with-rule-spec =
@@ -949,6 +996,6 @@ pub +match-with-expr+match-with-nested-ruledef+match-with-rule-spec : {M : Type 
     (λ t. E.spec (e-calls t) (e-at t) expr.Post e-Inv e-μ
     (e-next-useful-index-requires t) (e-find-ends-requires t) (e-loop-holds t) (e-mul-end t) (e-element-copy-out-end t) (e-add-i t) (e-least-requires t) (e-keep-requires t) (e-enum-told t) (e-same-length t) (e-returns t) (e-enum-known-room t) (e-after-requires t) (e-set-cursor-index-requires t) (e-match-with-rule-requires t) (e-enum-known-got t) (e-loop-less t) (e-loop-again t) (e-enum-known-got-2 t) (e-same-length-2 t) (e-returns-2 t) (e-same-length-3 t) (e-returns-3 t))
     (λ t. N.spec (n-calls t) (n-at t) nested.Post n-Inv2 n-μ2 n-Inv n-μ n-Inv3 n-μ3
-    (n-returns t) (n-next-useful-index-requires t) (n-find-limits-requires t) (n-mul-begin t) (n-shared-slice-read-begin t) (n-cast-begin t) (n-add-count t) (n-mul-count t) (n-shared-slice-read-count t) (n-cast-count t) (n-sub-count t) (n-loop-holds t) (n-mul-set-cursor-limit t) (n-element-copy-out-set-cursor-limit t) (n-set-cursor-limit-requires t) (n-add-pass t) (n-loop2-holds t) (n-loop-less t) (n-loop-again t) (n-add-parts-of t) (n-cast-parts-of t) (n-parts-of-requires t) (n-add-t60 t) (n-add-rule t) (n-match-with-rule-requires t) (n-enum-known-got t) (n-loop2-less t) (n-loop2-again t) (n-enum-known-got-2 t) (n-same-length t) (n-returns-2 t) (n-loop3-holds t) (n-add-m t) (n-add-inner-match t) (n-inner-match-requires t) (n-enum-told t) (n-loop3-less t) (n-loop3-again t) (n-enum-known-found t) (n-least-requires t) (n-keep-requires t) (n-enum-told-2 t) (n-same-length-2 t) (n-returns-3 t) (n-enum-known-room t) (n-after-requires t) (n-set-cursor-index-requires t) (n-match-with-rule-requires-2 t) (n-enum-known-got-3 t) (n-loop3-less-2 t) (n-loop3-again-2 t) (n-enum-known-got-4 t) (n-same-length-3 t) (n-returns-4 t) (n-same-length-4 t) (n-returns-5 t))
+    (n-returns t) (n-next-useful-index-requires t) (n-find-limits-requires t) (n-mul-begin t) (n-shared-slice-read-begin t) (n-cast-begin t) (n-add-count t) (n-mul-count t) (n-shared-slice-read-count t) (n-cast-count t) (n-sub-count t) (n-loop-holds t) (n-mul-set-cursor-limit t) (n-element-copy-out-set-cursor-limit t) (n-set-cursor-limit-requires t) (n-add-pass t) (n-loop2-holds t) (n-loop-less t) (n-loop-again t) (n-add-parts-of t) (n-cast-parts-of t) (n-parts-of-requires t) (n-add-t62 t) (n-add-rule t) (n-match-with-rule-requires t) (n-enum-known-got t) (n-loop2-less t) (n-loop2-again t) (n-enum-known-got-2 t) (n-same-length t) (n-returns-2 t) (n-loop3-holds t) (n-add-m t) (n-add-inner-match t) (n-inner-match-requires t) (n-enum-told t) (n-loop3-less t) (n-loop3-again t) (n-enum-known-found t) (n-least-requires t) (n-add-count-2 t) (n-keep-requires t) (n-enum-told-2 t) (n-same-length-2 t) (n-returns-3 t) (n-enum-known-room t) (n-after-requires t) (n-set-cursor-index-requires t) (n-match-with-rule-requires-2 t) (n-enum-known-got-3 t) (n-loop3-less-2 t) (n-loop3-again-2 t) (n-enum-known-got-4 t) (n-same-length-3 t) (n-returns-4 t) (n-same-length-4 t) (n-returns-5 t))
     (λ t. R.spec (r-calls t) (r-at t) rule.Post r-Inv r-μ
-    (r-get-cursor-index-requires t) (r-set-cursor-index-requires t) (r-loop-holds t) (r-same-length t) (r-returns t) (r-sub-left t) (r-finish-requires t) (r-same-length-2 t) (r-returns-2 t) (r-part-at-requires t) (r-add-at t) (r-enum-known-part t) (r-maybe-expect-char-requires t) (r-enum-known-step t) (r-loop-less t) (r-loop-again t) (r-enum-told t) (r-same-length-3 t) (r-returns-3 t) (r-enum-told-2 t) (r-maybe-expect-whitespace-requires t) (r-enum-known-step-2 t) (r-loop-less-2 t) (r-loop-again-2 t) (r-enum-told-3 t) (r-same-length-4 t) (r-returns-4 t) (r-enum-told-4 t) (r-past-requires t) (r-match-with-expr-requires t) (r-same-length-5 t) (r-returns-5 t) (r-enum-known-part-2 t) (r-past-requires-2 t) (r-match-with-nested-ruledef-requires t) (r-same-length-6 t) (r-returns-6 t))
+    (r-get-cursor-index-requires t) (r-set-cursor-index-requires t) (r-loop-holds t) (r-same-length t) (r-returns t) (r-sub-left t) (r-finish-requires t) (r-same-length-2 t) (r-returns-2 t) (r-part-at-requires t) (r-add-at t) (r-enum-known-part t) (r-maybe-expect-char-requires t) (r-enum-known-step t) (r-add-count t) (r-loop-less t) (r-loop-again t) (r-enum-told t) (r-same-length-3 t) (r-returns-3 t) (r-enum-told-2 t) (r-maybe-expect-whitespace-requires t) (r-enum-known-step-2 t) (r-loop-less-2 t) (r-loop-again-2 t) (r-enum-told-3 t) (r-same-length-4 t) (r-returns-4 t) (r-enum-told-4 t) (r-past-requires t) (r-match-with-expr-requires t) (r-same-length-5 t) (r-returns-5 t) (r-enum-known-part-2 t) (r-past-requires-2 t) (r-match-with-nested-ruledef-requires t) (r-same-length-6 t) (r-returns-6 t))
