@@ -20,7 +20,7 @@ use Rattle.readings.specs.Walk.{Match, topPairs, tries}
 use Rattle.readings.specs.Records.{pairOf}
 use Rattle.readings.specs.Answer.{exactCount, greatestCount, best, treeWords, answerWords}
 use Rattle.readings.specs.Call.{Accepted, tree, stoppedAfter, matched, written, baseFits}
-use Rattle.readings.proofs.Packed.{lawful, lawful-based}
+use Rattle.readings.proofs.Packed.{lawful, lawful-based, count-free}
 use Rattle.readings.proofs.Runs.{run-done, stop-left, mappedEnd}
 use Rattle.readings.proofs.Moved.{movedMatch, run-based, trees-moved, many-moved, words-by}
 use Rattle.readings.proofs.Scan.{Enough, scan-enough}
@@ -32,7 +32,6 @@ use Rattle.readings.proofs.Records.{top-pairs, found-pairs}
 use Rattle.pool.specs.declared.Pool.{Pool}
 use Rattle.pool.specs.Meaning.{gathered, meaning, meanings}
 use Rattle.pool.proofs.Meanings.{meanings-more}
-use Rattle.trees.proofs.Counts.{count-free}
 use Rattle.answer.specs.Measured.{treesIn, measured, FitFrom}
 use Rattle.answer.specs.declared.Measure.{Measure}
 use Rattle.trials.specs.declared.Answer.{Answer}
@@ -121,16 +120,16 @@ module _ (t line sheet rules : List ℕ) (base : ℕ) (ok : tableFits t ≡ true
   chosen-enough (all-tops e) = subst (Enough here) (top-pairs t line sheet ok ∙ ap (map (pairOf t)) (sym e)) (scan-enough here law)
   chosen-enough (by-prefix e) = subst (Enough here) (found-pairs t line sheet ok (linePrefix line) ∙ ap (map (pairOf t)) (sym e)) (lookup-enough here law)
 
-pub listed-by : {o : Outcome (List Match)} {store : List ℕ} {r : Walked} {left : ℕ} {pool : Pool} → Tried o store r → r ≡ Done left pool → Listed o store left pool
-listed-by {o} {store} m e = go (subst (Tried o store) e m)
+pub listed-by : {t : List ℕ} {o : Outcome (List Match)} {store : List ℕ} {r : Walked} {left : ℕ} {pool : Pool} → Tried t o store r → r ≡ Done left pool → Listed t o store left pool
+listed-by {t} {o} {store} m e = go (subst (Tried t o store) e m)
   where
-    go : {left : ℕ} {pool : Pool} → Tried o store (Done left pool) → Listed o store left pool
+    go : {left : ℕ} {pool : Pool} → Tried t o store (Done left pool) → Listed t o store left pool
     go (listed x) = x
 
-pub stopped-by : {o : Outcome (List Match)} {store : List ℕ} {r : Walked} {why : Refusal} {left : ℕ} → Tried o store r → r ≡ Stopped why left → o ≡ stop (numberOf why) left
-stopped-by {o} {store} m e = go (subst (Tried o store) e m)
+pub stopped-by : {t : List ℕ} {o : Outcome (List Match)} {store : List ℕ} {r : Walked} {why : Refusal} {left : ℕ} → Tried t o store r → r ≡ Stopped why left → o ≡ stop (numberOf why) left
+stopped-by {t} {o} {store} m e = go (subst (Tried t o store) e m)
   where
-    go : {why : Refusal} {left : ℕ} → Tried o store (Stopped why left) → o ≡ stop (numberOf why) left
+    go : {why : Refusal} {left : ℕ} → Tried t o store (Stopped why left) → o ≡ stop (numberOf why) left
     go (stopped x) = x
 
 module _ {t line sheet starts places store₀ rules : List ℕ} {count budget base : ℕ} (asked : ReadAsked t line sheet starts places store₀ rules count budget base) where
@@ -197,7 +196,7 @@ module _ {t line sheet starts places store₀ rules : List ℕ} {count budget ba
         ap (λ (x : Answer). says x b) q ∙ says-stopped why v b ∙ ap (λ (k : ℕ). stoppedAfter (numberOf why) k b) n
         ∙ sym (Calls.stopped (λ s. pairs) t line sheet budget base b ok (numberOf why) left (run-based t line sheet base pairs budget 0 ∙ ap (mappedEnd (movedMatch base)) e))
 
-  module _ {store : List ℕ} {left : ℕ} {pool : Pool} (l : Listed walked store left pool) where
+  module _ {store : List ℕ} {left : ℕ} {pool : Pool} (l : Listed t walked store left pool) where
     pub call-left : left ≤ budget
     call-left = let (_, i, _) = run-done (tries scene pairs) budget 0 (l .done-with) in omega arith
 
@@ -220,10 +219,10 @@ module _ {t line sheet starts places store₀ rules : List ℕ} {count budget ba
           (subst (List·Memᴰ (moved base u)) trees-placed (Memᴰ·map (moved base) m));
     }
 
-    pub call-asked : length store ≡ 4096 → TellAsked t starts store (pool .used) base
+    pub call-asked : length store ≡ 4096 → TellAsked t store (pool .used) base
     call-asked sized = record {
       stored = record { sized = sized; room = l .room; earlier = l .made .earlier };
-      begun = record { begins = asked .begins; fits = ok .table };
+      counted = l .counted;
       bounded = record {
         counts = λ u m. omega (arith, few u (subst (List·Memᴰ u) trees-are m) .0, count-free t line sheet u);
         words = λ u m. few u (subst (List·Memᴰ u) trees-are m) .1;

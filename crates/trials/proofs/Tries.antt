@@ -1,5 +1,5 @@
 -- The rules that were chosen, each walked on the whole line at depth 0 from its prepared place. The pool is empty at the start, so the log is what the walks left, and its matches of depth 0 are those that the plan lists.
-use mathlib.Core.Path.{_≡_, refl, sym, ap, subst, _∙_}
+use mathlib.Core.Path.{_≡_, refl, sym, ap, ap₂, subst, _∙_}
 use mathlib.Core.List.{List, [], _∷_, _++_, map, map-id}
 use Prim.Native.Nat.{ℕ, _+_, _*_, _≤_, _<_}
 use native.Mathlib.Omega.{arith}
@@ -22,13 +22,16 @@ use Rattle.pool.specs.declared.Pool.{Pool}
 use Rattle.pool.specs.declared.Record.{Record}
 use Rattle.pool.specs.Log.{logOf}
 use Rattle.pool.specs.Meaning.{chainAt, Earlier, Stored}
+use Rattle.pool.specs.Counted.{first, Counted}
 use Rattle.pool.proofs.Words.{log-none}
 use Rattle.pool.proofs.Meanings.{earlier-none}
+use Rattle.pool.proofs.Counts.{counted-none}
+use Rattle.pool.proofs.Passing.{so-start}
 use Rattle.walk.specs.declared.Place.{Place}
 use Rattle.walk.specs.declared.Walked.{Walked}
 use Rattle.walk.specs.declared.Walked.the-variants.{Done, Stopped}
 use Rattle.walk.specs.declared.Refusal.{Refusal}
-use Rattle.walk.specs.Met.{finishes, partsPlan, rulePlan, ran, Ready, Made, wholeAt, Left}
+use Rattle.walk.specs.Met.{finishes, partsPlan, rulePlan, ran, Ready, toCome, Stands, Made, wholeAt, Left}
 use Rattle.places.specs.Places.{PlacedAt}
 use Rattle.places.proofs.Words.{table-short}
 use Rattle.trials.specs.Told.{TryAsked, Tried, listed, stopped}
@@ -44,7 +47,7 @@ abbrev pub trialOf : List ℕ → List ℕ → List ℕ → ℕ → Plan (List M
 trialOf t line sheet i = trial (sceneOf t line sheet) (pairOf t i)
 
 abbrev pub TriesDid : List ℕ → List ℕ → List ℕ → List ℕ → ℕ → ℕ → List ℕ → ℕ → ℕ → ℕ → List ℕ → Type 0
-TriesDid t line sheet rules v₀ u₀ store₀ i v u store = Did (trialOf t line sheet) itself 0 (take i rules) v₀ u₀ store₀ v u store
+TriesDid t line sheet rules v₀ u₀ store₀ i v u store = Did t (trialOf t line sheet) itself 0 (take i rules) v₀ u₀ store₀ v u store
 
 tries-are : (t line sheet : List ℕ) (is : List ℕ) → tries (sceneOf t line sheet) (map (pairOf t) is) ≡ each is (trialOf t line sheet)
 unfolding tries each
@@ -60,8 +63,9 @@ module _ {t line sheet starts places store₀ rules : List ℕ} {count visits : 
 
   pub tries-start : (pool : Pool) → pool .used ≡ 0 → TriesDid t line sheet (take count rules) visits (pool .used) store₀ 0 visits (pool .used) store₀
   tries-start pool e =
-      did-none (trialOf t line sheet) itself 0 visits (pool .used) store₀
+      did-none t (trialOf t line sheet) itself 0 visits (pool .used) store₀
       (record { sized = asked .sized; room = omega (arith, e); earlier = subst Earlier (sym (ap (logOf store₀) e ∙ log-none store₀)) earlier-none })
+      (subst (Counted (sceneOf t [] [])) (sym (ap (logOf store₀) e ∙ log-none store₀)) (counted-none (sceneOf t [] [])))
 
   long : length (take count rules) ≡ count
   long = length-take-le count rules (asked .fits)
@@ -116,6 +120,7 @@ module _ {t line sheet starts places store₀ rules : List ℕ} {count visits : 
           end = getD places (4 * rule + 3) 0;
           depth = 0;
           args = 0;
+          count = 0;
         }
 
         pub try-ready : (has : Pool) → has .used ≡ u → Ready t line sheet starts store there w has
@@ -128,6 +133,7 @@ module _ {t line sheet starts places store₀ rules : List ℕ} {count visits : 
               short = short;
               begins = asked .begins;
               stored = subst (Stored store) (sym e) (did .stored);
+              counted = subst (λ (n : ℕ). Counted (sceneOf t [] []) (logOf store n)) (sym e) (did .counted);
               sets = omega (arith, placed-here .set, in-ruleset);
               rules = omega (arith, number-is, number-small);
               parts = sp .from;
@@ -143,6 +149,15 @@ module _ {t line sheet starts places store₀ rules : List ℕ} {count visits : 
         parts-are : partsBetween t (getD places (4 * rule + 2) 0) (getD places (4 * rule + 3) 0) ≡ s .parts (pairOf t rule .0) (pairOf t rule .1)
         unfolding parts
         parts-are = parts-whole t rule parts span ∙ sym (pair-parts t line sheet (asked .accepted .table) rule known)
+
+        -- a top rule begins with no argument, and no count
+        pub try-stands : (n : ℕ) → Stands t store n there 0 (toCome t there) (w .cursor)
+        unfolding chainAt sceneOf
+        try-stands n = record {
+          own = first;
+          so-far = so-start (sceneOf t [] []) (ap₂ (λ (a b : ℕ). sceneOf t [] [] .parts a b) group-of number-is ∙ sym parts-are);
+          small = omega arith;
+        }
 
         abbrev walked : Plan (List Found)
         walked = walk s (under s depths) (eqb (length line)) (s .parts (pairOf t rule .0) (pairOf t rule .1)) (length line) 0
@@ -161,7 +176,7 @@ module _ {t line sheet starts places store₀ rules : List ℕ} {count visits : 
         next-rule = rule-is ∙ sym (getD-take count rules i 0 h)
 
         module _ {has : Pool} (used : has .used ≡ u) {r : Walked} {store″ : List ℕ}
-            (m : Left (ran planned v has) there (logOf store (has .used)) store″ r) where
+            (m : Left t (ran planned v has) there (logOf store (has .used)) store″ r) where
           ran-is : ran planned v has ≡ run walked v u
           ran-is = ap (λ (p : Plan (List Found)). run p v (has .used)) plan-is ∙ ap (run walked v) used
 
@@ -182,9 +197,9 @@ module _ {t line sheet starts places store₀ rules : List ℕ} {count visits : 
               (mapped-done (named (pairOf t rule .0) (pairOf t rule .1)) walked v u (sym ran-is ∙ x .done-with))
               (subst (λ (n : ℕ). Made 0 (logOf store n) (logOf store″ (q .used)) (map itself found)) used
               (subst (Made 0 (logOf store (has .used)) (logOf store″ (q .used))) (all-named (x .founds) ∙ sym (map-id found)) (x .made)))
-              z
+              z (x .counted)
 
-          pub tries-stop : {why : Refusal} {l : ℕ} → r ≡ Stopped why l → u₀ ≡ 0 → Tried (run (tries s (map (pairOf t) (take count rules))) visits 0) store″ (Stopped why l)
+          pub tries-stop : {why : Refusal} {l : ℕ} → r ≡ Stopped why l → u₀ ≡ 0 → Tried t (run (tries s (map (pairOf t) (take count rules))) visits 0) store″ (Stopped why l)
           unfolding trial sceneOf
           tries-stop e z =
               stopped
@@ -192,7 +207,7 @@ module _ {t line sheet starts places store₀ rules : List ℕ} {count visits : 
               ∙ index-stop (trialOf t line sheet) itself 0 (take count rules) i did (omega (arith, long)) rule 0 next-rule
               (mapped-stop (named (pairOf t rule .0) (pairOf t rule .1)) walked v u (sym ran-is ∙ refused m e)))
 
-    pub tries-end : count ≤ i → u₀ ≡ 0 → (has : Pool) → has .used ≡ u → Tried (run (tries s (map (pairOf t) (take count rules))) visits 0) store (Done v has)
+    pub tries-end : count ≤ i → u₀ ≡ 0 → (has : Pool) → has .used ≡ u → Tried t (run (tries s (map (pairOf t) (take count rules))) visits 0) store (Done v has)
     tries-end h z has e =
         let all = index-end (trialOf t line sheet) itself 0 (take count rules) i did (omega (arith, long)) in
         listed
@@ -203,5 +218,6 @@ module _ {t line sheet starts places store₀ rules : List ℕ} {count visits : 
           made = subst (λ (n : ℕ). Made 0 [] (logOf store n) (all .gave)) (sym e)
               (subst (λ (l : List Record). Made 0 l (logOf store u) (all .gave)) (ap (logOf store₀) z ∙ log-none store₀)
               (subst (Made 0 (logOf store₀ u₀) (logOf store u)) (map-id (all .gave)) (all .made)));
+          counted = subst (λ (n : ℕ). Counted (sceneOf t [] []) (logOf store n)) (sym e) (all .counted);
           room = omega (arith, e, all .stored .room);
         })

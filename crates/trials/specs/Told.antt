@@ -22,7 +22,7 @@ use Rattle.places.specs.Places.{Placed}
 use Rattle.pool.specs.declared.Pool.{Pool}
 use Rattle.pool.specs.Log.{logOf}
 use Rattle.pool.specs.Meaning.{Stored}
-use Rattle.trees.specs.Asked.{Begun}
+use Rattle.pool.specs.Counted.{Counted}
 use Rattle.answer.specs.Measured.{treesIn, Bounded, FitFrom}
 use Rattle.trials.specs.declared.Answer.{Answer}
 use Rattle.trials.specs.declared.Answer.the-variants.{Matched, NoMatch, BadTable, BadLine, BadSheet, BadBudget, BadBase, Spent, TooDeep, PoolFull, TooLong}
@@ -88,26 +88,28 @@ pub record TryAsked (t line sheet starts places store rules : List ℕ) (count v
   pub fits : count ≤ length rules
   pub below : (i : ℕ) → i < count → getD rules i 0 < recordsIn t
 
--- what trying rules leaves: the matches in the log, or which of 6, 7, 8
-pub record Listed (o : Outcome (List Match)) (store : List ℕ) (left : ℕ) (pool : Pool) : Type 0 where
+-- what trying rules leaves: the matches in the log, whose records are counted, or which of 6, 7, 8
+pub record Listed (t : List ℕ) (o : Outcome (List Match)) (store : List ℕ) (left : ℕ) (pool : Pool) : Type 0 where
   pub matches : List Match
   pub done-with : o ≡ done left (pool .used) matches
   pub made : Made 0 [] (logOf store (pool .used)) matches
+  pub counted : Counted (sceneOf t [] []) (logOf store (pool .used))
   pub room : pool .used ≤ room
 
-pub data Tried (o : Outcome (List Match)) (store : List ℕ) : Walked → Type 0 where
-  listed : {left : ℕ} {pool : Pool} → Listed o store left pool → Tried o store (Done left pool)
-  stopped : {why : Refusal} {left : ℕ} → o ≡ stop (numberOf why) left → Tried o store (Stopped why left)
+pub data Tried (t : List ℕ) (o : Outcome (List Match)) (store : List ℕ) : Walked → Type 0 where
+  listed : {left : ℕ} {pool : Pool} → Listed t o store left pool → Tried t o store (Done left pool)
+  stopped : {why : Refusal} {left : ℕ} → o ≡ stop (numberOf why) left → Tried t o store (Stopped why left)
 
 abbrev pub stoppedBy : Refusal → ℕ → Answer
 stoppedBy Refusal.Spent v = Spent v
 stoppedBy Refusal.Deep v = TooDeep v
 stoppedBy Refusal.Full v = PoolFull v
 
--- what telling the matches asks: they are in the store, their counts and words are few, and under their base each word fits
-pub record TellAsked (t starts store : List ℕ) (used base : ℕ) : Type 0 where
+-- what telling the matches asks: they are in the store, with their counts; counts and words are few, and under their base each
+-- word fits
+pub record TellAsked (t store : List ℕ) (used base : ℕ) : Type 0 where
   pub stored : Stored store used
-  pub begun : Begun t starts
+  pub counted : Counted (sceneOf t [] []) (logOf store used)
   pub bounded : Bounded t store used
   pub fit : FitFrom base store used
   pub words : length (answerWords (sceneOf t [] []) (treesIn store used)) ≤ 12589058

@@ -101,7 +101,7 @@ fn try_rules(
     visits: usize,
 ) -> Walked
     requires { ⌜ TryAsked (now table) (now line) (now sheet) (now starts) (now places) (now store) (now rules) count visits ⌝ }
-    ensures { λ r. ⌜ Tried (run (tries (sceneOf (now (table .entry)) (now (line .entry)) (now (sheet .entry))) (triedPairs (now (table .entry)) (now (rules .entry)) count)) visits 0) (now (store .exit)) r ⌝ }
+    ensures { λ r. ⌜ Tried (now (table .entry)) (run (tries (sceneOf (now (table .entry)) (now (line .entry)) (now (sheet .entry))) (triedPairs (now (table .entry)) (now (rules .entry)) count)) visits 0) (now (store .exit)) r ⌝ }
 {
     let mut left = visits;
     let mut has = Pool::new();
@@ -116,6 +116,7 @@ fn try_rules(
             end: places[at + places::TO] as usize,
             depth: 0,
             args: 0,
+            count: 0,
         };
         let walker = Walker::new(line);
         let got = walk::match_with_rule(
@@ -145,17 +146,16 @@ fn try_rules(
 // The matches that the walk left, told by their base: measured before anything is written.
 fn tell(
     table: &[u16],
-    starts: &[u16],
     store: &[usize],
     used: usize,
     visits: u32,
     base: usize,
     answer: &mut [u32],
 ) -> Answer
-    requires { ⌜ TellAsked (now table) (now starts) (now store) used base ⌝ }
+    requires { ⌜ TellAsked (now table) (now store) used base ⌝ }
     ensures { λ r. ⌜ says r (now (answer .exit)) ≡ matched (sceneOf (now (table .entry)) [] []) visits (map (moved base) (treesIn (now (store .entry)) used)) (now (answer .entry)) ⌝ }
 {
-    let measure = answer::measure_answer(table, starts, store, used);
+    let measure = answer::measure_answer(table, store, used);
     if measure.matches == 0 {
         return Answer::NoMatch { visits };
     }
@@ -166,7 +166,7 @@ fn tell(
             words: words as u32,
         };
     }
-    answer::write_answer(table, starts, store, used, measure, base, answer);
+    answer::write_answer(table, store, used, measure, base, answer);
     Answer::Matched {
         visits,
         words: words as u32,
@@ -217,7 +217,6 @@ pub fn read_line(
         Walked::Stopped(why, left) => stopped(why, (visits - left) as u32),
         Walked::Done(left, pool) => tell(
             table,
-            starts,
             store,
             pool.used,
             (visits - left) as u32,

@@ -10,17 +10,17 @@ measure-answer-requires c κs = search needs
 returns : tie.Need-returns
 returns c = tell-none _ _ _ _ _ _ (c .before .before .measure-answer .ensures) (c .if1 .taken)
 
-cast-t12 : tie.Need-cast-t12
-cast-t12 c = omega (arith, words-of _ 0 _ 0 (c .before .before .before .before .before .before .before .before .args .answer .now) _ (c .before .before .before .measure-answer .ensures), c .before .before .before .before .before .before .before .before .pre .words)
+cast-t11 : tie.Need-cast-t11
+cast-t11 c = omega (arith, words-of _ 0 _ 0 (c .before .before .before .before .before .before .before .args .answer .now) _ (c .before .before .before .measure-answer .ensures), c .before .before .before .before .before .before .before .pre .words)
 
 returns-2 : tie.Need-returns-2
 returns-2 c = tell-long _ _ _ _ _ _ (c .before .before .before .measure-answer .ensures) (c .before .if1 .left) (c .if2 .taken)
 
 write-answer-requires : tie.Need-write-answer-requires
-write-answer-requires c κs = (c .before .before .before .before .before .before .before .before .before .pre .stored, (c .before .before .before .before .before .before .before .before .before .pre .begun, (c .before .before .before .before .before .before .before .before .before .pre .bounded, (c .before .before .before .before .measure-answer .ensures, (c .before .before .before .before .before .before .before .before .before .pre .fit, c .before .if2 .left)))))
+write-answer-requires c κs = (c .before .before .before .before .before .before .before .before .pre .stored, (c .before .before .before .before .before .before .before .before .pre .counted, (c .before .before .before .before .before .before .before .before .pre .bounded, (c .before .before .before .before .measure-answer .ensures, (c .before .before .before .before .before .before .before .before .pre .fit, c .before .if2 .left)))))
 
-cast-t16 : tie.Need-cast-t16
-cast-t16 c = omega (arith, words-of _ 0 _ 0 (c .before .before .before .before .before .before .before .before .before .before .before .before .args .answer .now) _ (c .before .before .before .before .before .before .before .measure-answer .ensures), c .before .before .before .before .before .before .before .before .before .before .before .before .pre .words)
+cast-t15 : tie.Need-cast-t15
+cast-t15 c = omega (arith, words-of _ 0 _ 0 (c .before .before .before .before .before .before .before .before .before .before .before .args .answer .now) _ (c .before .before .before .before .before .before .before .measure-answer .ensures), c .before .before .before .before .before .before .before .before .before .before .before .pre .words)
 
 same-length : tie.Need-same-length
 same-length c = search needs
@@ -34,9 +34,9 @@ tell-spec =
     (tie.spec
     measure-answer-requires
     returns
-    cast-t12
+    cast-t11
     returns-2
     write-answer-requires
-    cast-t16
+    cast-t15
     same-length
     returns-3)

@@ -3,7 +3,7 @@ use Prim.Native.Nat.{_-_}
 use native.Mathlib.Omega.{arith}
 use lib.ListN.{take}
 use mathlib.Core.Path.{refl}
-use Rattle.trials.proofs.Tries.{TriesDid, tries-start, words-there, fields-small, try-ready, tries-again, tries-stop, tries-end}
+use Rattle.trials.proofs.Tries.{TriesDid, tries-start, words-there, fields-small, try-ready, try-stands, tries-again, tries-stop, tries-end}
 use borrow.Author.Needs.{needs}
 use Rattle.trials.proofs.try_rules.Statement.{statement}
 use Rattle.trials.proofs.try_rules.Tie as tie
@@ -84,7 +84,10 @@ new-requires-2 : tie.Need-new-requires-2 Inv-loop μ-loop
 new-requires-2 c κs = search needs
 
 match-with-rule-requires : tie.Need-match-with-rule-requires Inv-loop μ-loop
-match-with-rule-requires c κs = try-ready (c .before .before .before .before .before .before .before .before .before .before .before .before .before .before .before .before .before .pre) _ (c .before .before .before .before .before .before .before .before .loop .inv) (c .before .before .before .before .before .before .before .loop-test .taken) _ refl _ (c .before .new2 .ensures .0) (c .before .new2 .ensures .1) _ refl
+match-with-rule-requires c κs = (
+  try-ready (c .before .before .before .before .before .before .before .before .before .before .before .before .before .before .before .before .before .pre) _ (c .before .before .before .before .before .before .before .before .loop .inv) (c .before .before .before .before .before .before .before .loop-test .taken) _ refl _ (c .before .new2 .ensures .0) (c .before .new2 .ensures .1) _ refl,
+  try-stands (c .before .before .before .before .before .before .before .before .before .before .before .before .before .before .before .before .before .pre) _ (c .before .before .before .before .before .before .before .before .loop .inv) (c .before .before .before .before .before .before .before .loop-test .taken) _ refl _ (c .before .new2 .ensures .0) (c .before .new2 .ensures .1) _,
+)
 
 enum-known-got : tie.Need-enum-known-got Inv-loop μ-loop
 enum-known-got c = search needs
