@@ -7,6 +7,7 @@ use native.Mathlib.Omega.{arith}
 use native.Mathlib.Nat.{eq-or-lt-of-le, le-of-suc-le-suc}
 use lib.ListN.{length, getD, length-append, List·getD-append}
 use lib.Seq.{getD-at}
+use Rattle.plain.specs.Lists.{count}
 use Rattle.readings.specs.Tree.{node, end}
 use Rattle.readings.specs.Scene.{Scene}
 use Rattle.readings.specs.Answer.{exactCount}
@@ -15,7 +16,7 @@ use Rattle.pool.specs.declared.Record.{Record}
 use Rattle.pool.specs.declared.Record.the-variants.{Kept, Completed}
 use Rattle.pool.specs.Log.{decode, logOf, countIn, depthIn, Digits, nothing}
 use Rattle.pool.specs.Meaning.{Chain, none, Entry, argued, unwind, chainIn, chainAt, treeAt, treeIn, linked, entryOf, meaning, meanings, Stored, entries}
-use Rattle.pool.specs.Counted.{soFar, CountedTo, first, after, CountOf, Counted}
+use Rattle.pool.specs.Counted.{isParameter, argumentsIn, soFar, CountedTo, first, after, CountOf, Counted}
 use Rattle.pool.proofs.Words.{log-length, log-at, digits}
 use Rattle.pool.proofs.Meanings.{meanings-more, meaning-length, chain-stays, entry-read}
 
@@ -39,14 +40,16 @@ module _ (s : Scene) where
   module _ (log : List Record) where
     pub counted-within : {r k n : ℕ} → CountedTo s r k log n → n ≤ length log
     counted-within first = omega arith
-    counted-within (after h e c rest) = omega arith
+    counted-within (after h e t c rest) = omega arith
 
     module _ (new : List Record) where
       pub counted-stays : {r k n : ℕ} → CountedTo s r k log n → CountedTo s r k (log ++ new) n
       counted-stays first = first
-      counted-stays {r} {k} (after {i = i} h e c rest) =
+      counted-stays {r} {k} (after {i = i} h e t c rest) =
+          let same = sym (chain-later log new (suc i) (omega arith)) in
           after {i = i} (omega (arith, length-append log new)) (List·getD-append log new nothing i h ∙ e)
-          (c ∙ ap (soFar s r k) (sym (chain-later log new (suc i) (omega arith)))) (counted-stays rest)
+          (subst (λ (d : Chain). argumentsIn d ≤ count isParameter (s .parts r k)) same t)
+          (c ∙ ap (soFar s r k) same) (counted-stays rest)
 
       count-stays : (i : ℕ) (x : Record) → CountOf s log i x → CountOf s (log ++ new) i x
       count-stays i (Kept a p n) (r, k, c) = (r, k, counted-stays c)
@@ -71,11 +74,13 @@ module _ (s : Scene) where
             (eq-or-lt-of-le (le-of-suc-le-suc (omega (arith, length-append log (x ∷ [])))))
 
     module _ {r k : ℕ} (a : Argument) {p n : ℕ} (before : CountedTo s r k log p)
+        (takes : argumentsIn (linked (meanings log) (chainAt (meanings log) p) (a .start) (a .end) (a .kind)) ≤ count isParameter (s .parts r k))
         (is : n ≡ soFar s r k (linked (meanings log) (chainAt (meanings log) p) (a .start) (a .end) (a .kind))) where
       -- an argument of a rule's match, after those before it
       pub argument-own : CountedTo s r k (log ++ (Kept a p n ∷ [])) (suc (length log))
       argument-own =
           after {i = length log} (omega (arith, length-append log (Kept a p n ∷ []))) (getD-at log (Kept a p n) [] nothing (length log) refl)
+          (subst (λ (d : Chain). argumentsIn d ≤ count isParameter (s .parts r k)) (sym (chain-kept log a p n)) takes)
           (is ∙ ap (soFar s r k) (sym (chain-kept log a p n))) (counted-stays log (Kept a p n ∷ []) before)
 
       pub argument-counted : Counted s (log ++ (Kept a p n ∷ []))

@@ -3,7 +3,7 @@
 use mathlib.Core.Path.{_≡_, refl, sym, ap, _∙_}
 use mathlib.Core.Bool.{true, false}
 use mathlib.Core.List.{List, [], _∷_, _++_, append-assoc, append-nil}
-use Prim.Native.Nat.{ℕ, suc, _+_}
+use Prim.Native.Nat.{ℕ, suc, _+_, _≤_}
 use native.Mathlib.Omega.{arith}
 use Rattle.plain.specs.Lists.{count}
 use Rattle.plain.proofs.Lists.{count-append}
@@ -95,6 +95,16 @@ module _ (s : Scene) where
           given = omega (arith, count-append isParameter (h .passed) (p ∷ []), one-parameter p takes, h .given, longer);
           counts = omega (arith, exact-append (h .passed) (p ∷ []), not-exact p takes, h .counts, adds, sum);
         }
+
+        -- the rule has a parameter for it
+        pub so-takes : argumentsIn d ≤ count isParameter (s .parts r k)
+        so-takes =
+            omega (
+              arith,
+              ap (count isParameter) (so-kept .pattern),
+              count-append isParameter (so-kept .passed) rest,
+              so-kept .given,
+            )
 
         -- and its record has the count so far
         pub so-recorded : n′ ≡ soFar s r k d

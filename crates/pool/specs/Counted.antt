@@ -4,7 +4,7 @@
 use mathlib.Core.Path.{_≡_}
 use mathlib.Core.Bool.{Bool, true, false}
 use mathlib.Core.List.{List, [], _∷_, _++_}
-use Prim.Native.Nat.{ℕ, zero, suc, _+_, _<_}
+use Prim.Native.Nat.{ℕ, zero, suc, _+_, _≤_, _<_}
 use lib.ListN.{length, getD}
 use Rattle.plain.specs.Choice.{select}
 use Rattle.plain.specs.Lists.{count}
@@ -47,10 +47,12 @@ soFar s r k c = exactParts (passedWith (s .parts r k) (argumentsIn c)) + nestedC
 
 -- ---- the records
 
--- arguments up to a last one, by its number from 1, are of a match of this rule: each record has the count of that match so far
+-- the arguments up to a last one, by its number from 1, are of a match of this rule: it has a parameter for each, and each
+-- record has the count of that match so far
 pub data CountedTo (s : Scene) (r k : ℕ) (log : List Record) : ℕ → Type 0 where
   first : CountedTo s r k log 0
   after : {i : ℕ} {a : Argument} {p n : ℕ} → i < length log → getD log i nothing ≡ Kept a p n
+      → argumentsIn (chainAt (meanings log) (suc i)) ≤ count isParameter (s .parts r k)
       → n ≡ soFar s r k (chainAt (meanings log) (suc i)) → CountedTo s r k log p → CountedTo s r k log (suc i)
 
 -- an argument's record alone doesn't say its rule; a match's says whose its arguments are

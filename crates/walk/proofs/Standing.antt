@@ -6,6 +6,7 @@ use mathlib.Core.List.{List, [], _∷_, _++_}
 use Prim.Native.Nat.{ℕ, suc, _+_, _≤_}
 use native.Mathlib.Omega.{arith}
 use lib.ListN.{length}
+use Rattle.plain.specs.Lists.{count}
 use Rattle.defs.specs.declared.ruledef.Part.{Part}
 use Rattle.readings.specs.Tree.{end}
 use Rattle.readings.specs.Scene.{Scene, sceneOf}
@@ -21,7 +22,7 @@ use Rattle.pool.specs.Meaning.{Chain, Entry, unwind, chainAt, treeAt, linked, m
 use Rattle.pool.specs.Counted.{isParameter, argumentsIn, soFar, CountedTo, Counted, SoFar}
 use Rattle.pool.proofs.Words.{log-length}
 use Rattle.pool.proofs.Counts.{chain-later, chain-kept, counted-within, counted-stays, argument-own, argument-counted}
-use Rattle.pool.proofs.Passing.{expr-adds, nest-adds, so-kept, so-recorded}
+use Rattle.pool.proofs.Passing.{expr-adds, nest-adds, so-kept, so-takes, so-recorded}
 use Rattle.walk.specs.declared.Place.{Place}
 use Rattle.walk.specs.Met.{Stands, afterArg}
 
@@ -78,6 +79,9 @@ module _ {t : List ℕ} {place : Place} {part : Part} (takes : isParameter part 
   recorded : n′ ≡ soFar s (place .set) (place .rule) chain
   recorded = so-recorded s takes (stands .so-far) chain longer (addsOf s (entries store u) (arg .kind)) adds sum
 
+  given : argumentsIn chain ≤ count isParameter (s .parts (place .set) (place .rule))
+  given = so-takes s takes (stands .so-far) chain longer (addsOf s (entries store u) (arg .kind)) adds sum
+
   grown : logOf store′ (more .used) ≡ log ++ (Kept arg (place .args) n′ ∷ [])
   grown = ap (logOf store′) (added .counted) ∙ added .grown
 
@@ -85,12 +89,12 @@ module _ {t : List ℕ} {place : Place} {part : Part} (takes : isParameter part 
   number = omega (arith, added .counted, log-length store u (omega (arith, stored .sized, stored .room)))
 
   pub kept-counted : Counted s (logOf store′ (more .used))
-  kept-counted = subst (Counted s) (sym grown) (argument-counted s log counted arg (stands .own) recorded)
+  kept-counted = subst (Counted s) (sym grown) (argument-counted s log counted arg (stands .own) given recorded)
 
   pub kept-stands : {e : ℕ} → n′ ≤ e → Stands t store′ (more .used) (afterArg place (more .used) n′) n′ rest e
   kept-stands small = record {
     own = subst (λ (l : List Record). CountedTo s (place .set) (place .rule) l (more .used)) (sym grown)
-        (subst (CountedTo s (place .set) (place .rule) (log ++ (Kept arg (place .args) n′ ∷ []))) number (argument-own s log counted arg (stands .own) recorded));
+        (subst (CountedTo s (place .set) (place .rule) (log ++ (Kept arg (place .args) n′ ∷ []))) number (argument-own s log counted arg (stands .own) given recorded));
     so-far = subst (λ (d : Chain). SoFar s (place .set) (place .rule) rest d n′)
         (sym (ap (λ (l : List Record). chainAt (meanings l) (more .used)) grown ∙ ap (chainAt (meanings (log ++ (Kept arg (place .args) n′ ∷ [])))) (sym number)
         ∙ chain-kept log arg (place .args) n′))
