@@ -62,9 +62,9 @@ module _ (s : Scene) where
   nest-adds c x y t = omega (arith, unwound c (nest x y t end))
 
   module _ {r k : ℕ} where
-    pub so-start : {rest : List Part} → s .parts r k ≡ rest → SoFar s r k rest none 0
+    pub so-start : {rest : List Part} {n : ℕ} → s .parts r k ≡ rest → n ≡ 0 → SoFar s r k rest none n
     unfolding exactParts count
-    so-start e = record { passed = []; pattern = e; given = refl; counts = omega arith }
+    so-start e z = record { passed = []; pattern = e; given = refl; counts = omega arith }
 
     module _ {rest : List Part} {c : Chain} {n : ℕ} where
       pub so-exact : {x : ℕ} → SoFar s r k (Exact x ∷ rest) c n → SoFar s r k rest c (n + 1)

@@ -120,7 +120,6 @@ module _ {t line sheet starts places store₀ rules : List ℕ} {count visits : 
           end = getD places (4 * rule + 3) 0;
           depth = 0;
           args = 0;
-          count = 0;
         }
 
         pub try-ready : (has : Pool) → has .used ≡ u → Ready t line sheet starts store there w has
@@ -151,11 +150,11 @@ module _ {t line sheet starts places store₀ rules : List ℕ} {count visits : 
         parts-are = parts-whole t rule parts span ∙ sym (pair-parts t line sheet (asked .accepted .table) rule known)
 
         -- a top rule begins with no argument, and no count
-        pub try-stands : (n : ℕ) → Stands t store n there 0 (toCome t there) (w .cursor)
+        pub try-stands : (u : ℕ) {n : ℕ} → n ≡ 0 → Stands t store u there n (toCome t there) (w .cursor)
         unfolding chainAt sceneOf
-        try-stands n = record {
+        try-stands u z = record {
           own = first;
-          so-far = so-start (sceneOf t [] []) (ap₂ (λ (a b : ℕ). sceneOf t [] [] .parts a b) group-of number-is ∙ sym parts-are);
+          so-far = so-start (sceneOf t [] []) (ap₂ (λ (a b : ℕ). sceneOf t [] [] .parts a b) group-of number-is ∙ sym parts-are) z;
           small = omega arith;
         }
 

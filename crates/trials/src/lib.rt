@@ -116,7 +116,6 @@ fn try_rules(
             end: places[at + places::TO] as usize,
             depth: 0,
             args: 0,
-            count: 0,
         };
         let walker = Walker::new(line);
         let got = walk::match_with_rule(
@@ -126,6 +125,7 @@ fn try_rules(
             starts,
             store,
             place,
+            0,
             walker,
             left,
             has,

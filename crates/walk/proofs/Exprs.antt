@@ -62,7 +62,7 @@ moved-there {line = line} {w = w} r e h = index-set line w e (r .cursor, r .limi
 
 -- what the next walk asks, of a walker that was moved to an end below the limit
 pub ready-after : {t line sheet starts store₀ : List ℕ} {place : Place} {w : Walker} {pool : Pool} → Ready t line sheet starts store₀ place w pool
-    → (store : List ℕ) (more : Pool) (e : ℕ) {n : ℕ} {next : Place} → next ≡ afterArg place (more .used) n → e ≤ w .limit → Stored store (more .used)
+    → (store : List ℕ) (more : Pool) (e : ℕ) {next : Place} → next ≡ afterArg place (more .used) → e ≤ w .limit → Stored store (more .used)
     → Counted (sceneOf t [] []) (logOf store (more .used)) → {moved : Walker} → moved ≡ movedTo line e (held line w) → Ready t line sheet starts store next moved more
 ready-after {t} {line} {sheet} {starts} {w = w} r store more e {next = next} n h s counts is =
     subst (λ (v : Walker). Ready t line sheet starts store next v more) (sym (is ∙ moved-there r e h))
@@ -87,16 +87,16 @@ ready-after {t} {line} {sheet} {starts} {w = w} r store more e {next = next} n h
 
 -- where the match stands at the next place
 pub stands-after : {t line sheet starts store₀ : List ℕ} {place : Place} {w : Walker} {pool : Pool} → Ready t line sheet starts store₀ place w pool
-    → {store : List ℕ} {more : Pool} {e n : ℕ} {next : Place} → next ≡ afterArg place (more .used) n → e ≤ w .limit → {moved : Walker} → moved ≡ movedTo line e (held line w)
-    → Stands t store (more .used) (afterArg place (more .used) n) n (toCome t place) e → Stands t store (more .used) next (next .count) (toCome t next) (moved .cursor)
-stands-after {t} {store₀ = store₀} r {store} {more} {e} {next = next} next-is h is x =
-    subst (λ (v : Walker). Stands t store (more .used) next (next .count) (toCome t next) (v .cursor)) (sym (is ∙ moved-there r e h))
-    (subst (λ (q : Place). Stands t store (more .used) q (q .count) (toCome t q) e) (sym next-is) x)
+    → {store : List ℕ} {more : Pool} {e n : ℕ} {next : Place} → next ≡ afterArg place (more .used) → e ≤ w .limit → {moved : Walker} → moved ≡ movedTo line e (held line w)
+    → Stands t store (more .used) (afterArg place (more .used)) n (toCome t place) e → Stands t store (more .used) next n (toCome t next) (moved .cursor)
+stands-after {t} r {store} {more} {e} {n} {next} next-is h is x =
+    subst (λ (v : Walker). Stands t store (more .used) next n (toCome t next) (v .cursor)) (sym (is ∙ moved-there r e h))
+    (subst (λ (q : Place). Stands t store (more .used) q n (toCome t q) e) (sym next-is) x)
 
 -- what a walk from the next place left
-pub left-after-arg : (t line sheet : List ℕ) (place : Place) (more : Pool) (l e v : ℕ) {n : ℕ} {log : List Record} {store : List ℕ} {r : Walked} {next : Place} → next ≡ afterArg place (more .used) n
+pub left-after-arg : (t line sheet : List ℕ) (place : Place) (more : Pool) (l e v : ℕ) {log : List Record} {store : List ℕ} {r : Walked} {next : Place} → next ≡ afterArg place (more .used)
     → {moved : Walker} → moved ≡ record { cursor = e; limit = l } → Left t (ran (rulePlan t line sheet (next .depth) (next .at) (next .end) (moved .limit) (moved .cursor)) v more) next log store r
-    → Left t (ran (rulePlan t line sheet (place .depth) (place .at) (place .end) l e) v more) (afterArg place (more .used) n) log store r
+    → Left t (ran (rulePlan t line sheet (place .depth) (place .at) (place .end) l e) v more) (afterArg place (more .used)) log store r
 left-after-arg t line sheet place more l e v {log = log} {store = store} {r = r} {next = next} n is m =
     subst (λ (q : Place). Left t (ran (rulePlan t line sheet (q .depth) (q .at) (q .end) l e) v more) q log store r) n
     (subst (λ (w : Walker). Left t (ran (rulePlan t line sheet (next .depth) (next .at) (next .end) (w .limit) (w .cursor)) v more) next log store r) is m)
@@ -165,7 +165,7 @@ module _ {t line sheet starts store₀ : List ℕ} {place : Place} {w : Walker} 
           ends-within s (lawful t line sheet (ready .extents)) (w .limit) (w .cursor) (partsBetween t (place .at) (place .end)) (ready .cursor) e
           (subst (λ (n : ℕ). List·Memᴰ n xs) (sym (is-next ∙ ap (λ (l : List ℕ). getD l i 0) places-are)) (member-at xs i (omega (arith, count-is))))
 
-      pub expr-fits : {st : ℕ} → st ≡ min e g → place .count ≤ w .cursor → ArgumentFits (exprArg st e) (place .args) (place .count)
+      pub expr-fits : {st n : ℕ} → st ≡ min e g → n ≤ w .cursor → ArgumentFits (exprArg st e) (place .args) n
       expr-fits st-is few-counts = record {
         start = omega (arith, expr-within .1, ready .limit, ready .short, st-is);
         end = omega (arith, expr-within .1, ready .limit, ready .short);
@@ -181,20 +181,20 @@ module _ {t line sheet starts store₀ : List ℕ} {place : Place} {w : Walker} 
           → Left t (ran (exprPlan t line sheet (place .depth) (place .at) (place .end) (w .limit) (w .cursor)) visits pool) place (logOf store₀ (pool .used)) store′ (Stopped Full v)
       expr-full store′ q = halted (stops (turn-full [] (exprArg (min e g) e) (rulePlan t line sheet (place .depth) (place .at) (place .end) (w .limit) e) v u q))
 
-      module _ (st : ℕ) (st-is : st ≡ min e g) (store′ : List ℕ) (more : Pool) (added : Added u store store′ (Kept (exprArg st e) (place .args) (place .count)) more) where
+      module _ (st : ℕ) (st-is : st ≡ min e g) {n : ℕ} (store′ : List ℕ) (more : Pool) (added : Added u store store′ (Kept (exprArg st e) (place .args) n) more) where
         same-turn : exprFrom t line sheet place (w .limit) g e ≡ turn (entries store u) (exprArg st e) (rulePlan t line sheet (place .depth) (place .at) (place .end) (w .limit) e)
         same-turn = ap (λ (n : ℕ). turn [] (exprArg n e) (rulePlan t line sheet (place .depth) (place .at) (place .end) (w .limit) e)) (sym st-is)
 
-        module _ (standing : Stands t store₀ (pool .used) place (place .count) (fromExpr t place) (w .cursor)) where
+        module _ (standing : Stands t store₀ (pool .used) place n (fromExpr t place) (w .cursor)) where
           -- the match as it stands in the store of this turn
-          here : Stands t store u place (place .count) (fromExpr t place) (w .cursor)
+          here : Stands t store u place n (fromExpr t place) (w .cursor)
           here = stands-later (did .made .new) (did .made .grown) standing
 
-          sum : place .count ≡ place .count + addsOf (sceneOf t [] []) (entries store u) Expr
+          sum : n ≡ n + addsOf (sceneOf t [] []) (entries store u) Expr
           sum = omega arith
 
-          pub expr-stands : {next : Place} → next ≡ afterArg place (more .used) (place .count) → {moved : Walker} → moved ≡ movedTo line e (held line w)
-              → Stands t store′ (more .used) next (next .count) (toCome t next) (moved .cursor)
+          pub expr-stands : {next : Place} → next ≡ afterArg place (more .used) → {moved : Walker} → moved ≡ movedTo line e (held line w)
+              → Stands t store′ (more .used) next n (toCome t next) (moved .cursor)
           expr-stands next-is moved-is =
               stands-after ready next-is (expr-within .1) moved-is
               (kept-stands refl (did .stored) (did .counted) here (exprArg st e) added sum (omega (arith, standing .small, expr-within .0)))
@@ -202,22 +202,22 @@ module _ {t line sheet starts store₀ : List ℕ} {place : Place} {w : Walker} 
           pub expr-counted : Counted (sceneOf t [] []) (logOf store′ (more .used))
           expr-counted = kept-counted refl (did .stored) (did .counted) here (exprArg st e) added sum
 
-        pub expr-ready : {next : Place} → next ≡ afterArg place (more .used) (place .count) → length store′ ≡ 4096 → Counted (sceneOf t [] []) (logOf store′ (more .used))
+        pub expr-ready : {next : Place} → next ≡ afterArg place (more .used) → length store′ ≡ 4096 → Counted (sceneOf t [] []) (logOf store′ (more .used))
             → {moved : Walker} → moved ≡ movedTo line e (held line w) → Ready t line sheet starts store′ next moved more
         expr-ready next z counts =
             ready-after ready store′ more e next (expr-within .1)
-            (turn-stored place (exprArg st e) (place .count) (rulePlan t line sheet (place .depth) (place .at) (place .end) (w .limit) e) v u store store′ more (did .stored)
+            (turn-stored place (exprArg st e) n (rulePlan t line sheet (place .depth) (place .at) (place .end) (w .limit) e) v u store store′ more (did .stored)
             (omega (arith, ready .last, did-longer did (ready .stored))) tt added z) counts
 
-        module _ {next : Place} (next-is : next ≡ afterArg place (more .used) (place .count)) {moved : Walker} (moved-is : moved ≡ movedTo line e (held line w)) {r : Walked} {store″ : List ℕ}
+        module _ {next : Place} (next-is : next ≡ afterArg place (more .used)) {moved : Walker} (moved-is : moved ≡ movedTo line e (held line w)) {r : Walked} {store″ : List ℕ}
             (m : Left t (ran (rulePlan t line sheet (next .depth) (next .at) (next .end) (moved .limit) (moved .cursor)) v more) next (logOf store′ (more .used)) store″ r) where
-          from-there : Left t (ran (rulePlan t line sheet (place .depth) (place .at) (place .end) (w .limit) e) v more) (afterArg place (more .used) (place .count)) (logOf store′ (more .used)) store″ r
+          from-there : Left t (ran (rulePlan t line sheet (place .depth) (place .at) (place .end) (w .limit) e) v more) (afterArg place (more .used)) (logOf store′ (more .used)) store″ r
           from-there = left-after-arg t line sheet place more (w .limit) e v next-is (moved-is ∙ moved-there ready e (expr-within .1)) m
 
           pub expr-again : {l : ℕ} {q : Pool} → r ≡ Done l q → length store″ ≡ 4096 → ExprDid t line sheet place (w .limit) g es visits (pool .used) store₀ (i + 1) l (q .used) store″
           expr-again x z =
               did-same (ap (λ (n : ℕ). take i (heldIn es) ++ (n ∷ [])) is-next ∙ sym (next-taken (heldIn es) 0 i (omega (arith, long))))
-              (turned (exprFrom t line sheet place (w .limit) g) place did (ready .stored) (ready .last) (exprArg st e) (place .count)
+              (turned (exprFrom t line sheet place (w .limit) g) place did (ready .stored) (ready .last) (exprArg st e) n
               (rulePlan t line sheet (place .depth) (place .at) (place .end) (w .limit) e) e same-turn store′ more tt added from-there x z)
 
           pub expr-halt : {why : Refusal} {l : ℕ} → r ≡ Stopped why l
@@ -225,5 +225,5 @@ module _ {t line sheet starts store₀ : List ℕ} {place : Place} {w : Walker} 
           expr-halt x =
               halted
               (stops
-              (turn-refused (exprFrom t line sheet place (w .limit) g) place did (ready .stored) (ready .last) (exprArg st e) (place .count)
+              (turn-refused (exprFrom t line sheet place (w .limit) g) place did (ready .stored) (ready .last) (exprArg st e) n
               (rulePlan t line sheet (place .depth) (place .at) (place .end) (w .limit) e) e same-turn store′ more tt added from-there x))

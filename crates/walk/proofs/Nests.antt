@@ -277,34 +277,34 @@ module _ {t line sheet starts store₀ : List ℕ} {place : Place} {w : Walker} 
         pub nest-full : u ≡ 4096 → run (each (innersOf store₁ u₁ d (pool .used) u₁) f) v₁ u₁ ≡ stop 8 v
         nest-full q = stops (ap (λ (k : Plan (List Found)). run k v u) (same-turn refl) ∙ turn-full (entries store u) (nestArg (min e g) e m) p v u q)
 
-        module _ (st : ℕ) (st-is : st ≡ min e g) (c : ℕ) (c-is : c ≡ place .count + k) (store′ : List ℕ) (more : Pool) (added : Added u store store′ (Kept (nestArg st e m) (place .args) c) more) where
+        module _ (st : ℕ) (st-is : st ≡ min e g) {c : ℕ} (store′ : List ℕ) (more : Pool) (added : Added u store store′ (Kept (nestArg st e m) (place .args) c) more) where
           inner-before : m < u
           inner-before = omega (arith, nest-used)
 
-          module _ {group : ℕ} (standing : Stands t store₀ (pool .used) place (place .count) (fromNest t group place) (w .cursor)) (new : List Record) (since : logOf store₁ u₁ ≡ logOf store₀ (pool .used) ++ new) where
+          module _ {group b : ℕ} (standing : Stands t store₀ (pool .used) place b (fromNest t group place) (w .cursor)) (c-is : c ≡ b + k) (new : List Record) (since : logOf store₁ u₁ ≡ logOf store₀ (pool .used) ++ new) where
             -- the match as it stands in the store of this turn
-            here : Stands t store u place (place .count) (fromNest t group place) (w .cursor)
+            here : Stands t store u place b (fromNest t group place) (w .cursor)
             here = stands-later (n .did .made .new) (n .did .made .grown) (stands-later new since standing)
 
-            sum : c ≡ place .count + addsOf (sceneOf t [] []) (entries store u) (Nested m)
-            sum = c-is ∙ ap (λ (b : ℕ). place .count + b) nest-counts
+            sum : c ≡ b + addsOf (sceneOf t [] []) (entries store u) (Nested m)
+            sum = c-is ∙ ap (λ (j : ℕ). b + j) nest-counts
 
-            pub nest-stands : {next : Place} → next ≡ afterArg place (more .used) c → e ≤ w .limit → c ≤ e → {moved : Walker} → moved ≡ movedTo line e (held line w)
-                → Stands t store′ (more .used) next (next .count) (toCome t next) (moved .cursor)
-            nest-stands next-is b few-counts moved-is =
-                stands-after ready next-is b moved-is (kept-stands refl (n .did .stored) (n .did .counted) here (nestArg st e m) added sum few-counts)
+            pub nest-stands : {next : Place} → next ≡ afterArg place (more .used) → e ≤ w .limit → c ≤ e → {moved : Walker} → moved ≡ movedTo line e (held line w)
+                → Stands t store′ (more .used) next c (toCome t next) (moved .cursor)
+            nest-stands next-is low few-counts moved-is =
+                stands-after ready next-is low moved-is (kept-stands refl (n .did .stored) (n .did .counted) here (nestArg st e m) added sum few-counts)
 
             pub nest-kept : Counted (sceneOf t [] []) (logOf store′ (more .used))
             nest-kept = kept-counted refl (n .did .stored) (n .did .counted) here (nestArg st e m) added sum
 
-          pub nest-ready : {next : Place} → next ≡ afterArg place (more .used) c → e ≤ w .limit → length store′ ≡ 4096 → Counted (sceneOf t [] []) (logOf store′ (more .used)) → {moved : Walker} → moved ≡ movedTo line e (held line w) → Ready t line sheet starts store′ next moved more
+          pub nest-ready : {next : Place} → next ≡ afterArg place (more .used) → e ≤ w .limit → length store′ ≡ 4096 → Counted (sceneOf t [] []) (logOf store′ (more .used)) → {moved : Walker} → moved ≡ movedTo line e (held line w) → Ready t line sheet starts store′ next moved more
           nest-ready next b z counts =
               ready-after ready store′ more e next b
               (turn-stored place (nestArg st e m) c p v u store store′ more (n .did .stored) (omega (arith, few, nest-used)) inner-before added z) counts
 
-          module _ {next-place : Place} (next-is : next-place ≡ afterArg place (more .used) c) (b : e ≤ w .limit) {moved : Walker} (moved-is : moved ≡ movedTo line e (held line w)) {r : Walked} {store″ : List ℕ}
+          module _ {next-place : Place} (next-is : next-place ≡ afterArg place (more .used)) (b : e ≤ w .limit) {moved : Walker} (moved-is : moved ≡ movedTo line e (held line w)) {r : Walked} {store″ : List ℕ}
               (got : Left t (ran (rulePlan t line sheet (next-place .depth) (next-place .at) (next-place .end) (moved .limit) (moved .cursor)) v more) next-place (logOf store′ (more .used)) store″ r) where
-            from-there : Left t (ran p v more) (afterArg place (more .used) c) (logOf store′ (more .used)) store″ r
+            from-there : Left t (ran p v more) (afterArg place (more .used)) (logOf store′ (more .used)) store″ r
             from-there = left-after-arg t line sheet place more (w .limit) e v next-is (moved-is ∙ moved-there ready e b) got
 
             pub nest-again : {l : ℕ} {q : Pool} → r ≡ Done l q → length store″ ≡ 4096 → NestDid t line sheet place (w .limit) g (pool .used) v₁ u₁ store₁ (m + 1) l (q .used) store″
@@ -395,8 +395,8 @@ module _ {t line sheet starts store₀ : List ℕ} {place : Place} {w : Walker} 
           in-line m h = omega (arith, ready .limit)
 
       -- so the count with it is at most where it ended
-      pub nested-few : {u : Tree} {e j : ℕ} → List·Memᴰ (u, e) (innersOf store₁ u₁ k (pool .used) u₁) → j ≡ exactCount (sceneOf t [] []) u
-          → place .count ≤ w .cursor → (place .count + j ≤ e) × (e ≤ 120)
+      pub nested-few : {u : Tree} {e j c : ℕ} → List·Memᴰ (u, e) (innersOf store₁ u₁ k (pool .used) u₁) → j ≡ exactCount (sceneOf t [] []) u
+          → c ≤ w .cursor → (c + j ≤ e) × (e ≤ 120)
       nested-few i counts small = let (a, b) = nested-within i in (omega arith, omega (arith, ready .limit, ready .short))
 
       onward : planned ≡ run (each (innersOf store₁ u₁ k (pool .used) u₁) (nestFrom t line sheet place (w .limit) g)) v₁ u₁

@@ -185,9 +185,15 @@ pub record Along (t line sheet : List ℕ) (place : Place) (w : Walker) (to u : 
   pub stands : Stands t store₀ u place count (partsBetween t at to) (here .cursor)
   pub comes : from t line sheet (place .depth) at₀ to (w .limit) (w .cursor) left₀ u ≡ from t line sheet (place .depth) at to (w .limit) (here .cursor) left u
 
+-- the same count by another name
+pub along-by : {t line sheet : List ℕ} {place : Place} {w : Walker} {to u : ℕ} {store₀ : List ℕ} {left₀ at₀ : ℕ} {store : List ℕ} {left at count more : ℕ} {here : Walker} → count ≡ more
+    → Along t line sheet place w to u store₀ left₀ at₀ store left at count here → Along t line sheet place w to u store₀ left₀ at₀ store left at more here
+along-by {t} {line} {sheet} {place} {w} {to} {u} {store₀} {left₀} {at₀} {store} {left} {at} {here = here} e a =
+    subst (λ (n : ℕ). Along t line sheet place w to u store₀ left₀ at₀ store left at n here) e a
+
 module _ {t line sheet starts store₀ : List ℕ} {place : Place} {w : Walker} {pool : Pool} (ready : Ready t line sheet starts store₀ place w pool) (visits : ℕ) where
-  pub along-start : Stands t store₀ (pool .used) place (place .count) (toCome t place) (w .cursor)
-      → Along t line sheet place w (place .end) (pool .used) store₀ visits (place .at) store₀ visits (place .at) (place .count) w
+  pub along-start : {count : ℕ} → Stands t store₀ (pool .used) place count (toCome t place) (w .cursor)
+      → Along t line sheet place w (place .end) (pool .used) store₀ visits (place .at) store₀ visits (place .at) count w
   along-start standing = record {
     same = refl;
     falls = omega arith;
@@ -317,7 +323,7 @@ module _ {t line sheet starts store₀ : List ℕ} {place : Place} {w : Walker} 
               (gap-stayed t line sheet (w .limit) c step space-there e))
 
         -- what the two steps ask
-        pub step-ready : {rest : Place} → rest ≡ pastAt place (at + 1) count → Ready t line sheet starts store rest here pool
+        pub step-ready : {rest : Place} → rest ≡ pastAt place (at + 1) → Ready t line sheet starts store rest here pool
         step-ready {rest} e = subst (λ (q : Place). Ready t line sheet starts store q here pool) (sym e)
             (record {
               table = ready .table;
@@ -339,15 +345,15 @@ module _ {t line sheet starts store₀ : List ℕ} {place : Place} {w : Walker} 
             })
 
         -- and where its match stands there
-        pub step-stands : {p : Part} → part ≡ p → {rest : Place} → rest ≡ pastAt place (at + 1) count → Stands t store (pool .used) rest (rest .count) (p ∷ toCome t rest) c
+        pub step-stands : {p : Part} → part ≡ p → {rest : Place} → rest ≡ pastAt place (at + 1) → Stands t store (pool .used) rest count (p ∷ toCome t rest) c
         step-stands {p} e {rest} q =
-            subst (λ (r : Place). Stands t store (pool .used) r (r .count) (p ∷ toCome t r) c) (sym q)
+            subst (λ (r : Place). Stands t store (pool .used) r count (p ∷ toCome t r) c) (sym q)
             (let x = standing (opened t at (place .end) before (ready .whole) part is e) in record { own = x .own; so-far = x .so-far; small = x .small })
 
         pub ruleset-few : {r : ℕ} → part ≡ Nested r → r < 32
         ruleset-few {r} e = nested-few t line sheet (ready .table) at r (omega (arith, ready .parts, along .later)) (omega (arith, before, ready .whole)) (sym is ∙ e)
 
-        pub along-expression : part ≡ Expression → {rest : Place} → rest ≡ pastAt place (at + 1) count → {store′ : List ℕ} {r : Walked}
+        pub along-expression : part ≡ Expression → {rest : Place} → rest ≡ pastAt place (at + 1) → {store′ : List ℕ} {r : Walked}
             → Left t (ran (exprPlan t line sheet (rest .depth) (rest .at) (rest .end) (here .limit) c) (left - 1) pool) rest (logOf store (pool .used)) store′ r
             → Left t planned place log store′ r
         along-expression e {rest} q {store′} {r} m =
@@ -355,7 +361,7 @@ module _ {t line sheet starts store₀ : List ℕ} {place : Place} {w : Walker} 
             (left-past (subst (λ (p : Place). Left t (ran (exprPlan t line sheet (p .depth) (p .at) (p .end) (w .limit) c) (left - 1) pool) p (logOf store (pool .used)) store′ r) q
             (subst (λ (l : ℕ). Left t (ran (exprPlan t line sheet (rest .depth) (rest .at) (rest .end) l c) (left - 1) pool) rest (logOf store (pool .used)) store′ r) (along .under) m)))
 
-        pub along-nested : {group : ℕ} → part ≡ Nested group → {rest : Place} → rest ≡ pastAt place (at + 1) count → {store′ : List ℕ} {r : Walked}
+        pub along-nested : {group : ℕ} → part ≡ Nested group → {rest : Place} → rest ≡ pastAt place (at + 1) → {store′ : List ℕ} {r : Walked}
             → Left t (ran (nestedPlan t line sheet (rest .depth) group (rest .at) (rest .end) (here .limit) c) (left - 1) pool) rest (logOf store (pool .used)) store′ r
             → Left t planned place log store′ r
         along-nested {group} e {rest} q {store′} {r} m =

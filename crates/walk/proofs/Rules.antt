@@ -105,7 +105,7 @@ module _ {t line sheet starts store₀ : List ℕ} {place : Place} {w : Walker} 
       record-below = omega (arith, begins, many, begins-within t (group + 1), begins-order t line sheet (ready .table) group)
 
       abbrev there : Place
-      there = record { set = group; rule = k; at = parts .at; end = parts .end; depth = d + 1; args = 0; count = 0 }
+      there = record { set = group; rule = k; at = parts .at; end = parts .end; depth = d + 1; args = 0 }
 
       pub rule-ready : (store : List ℕ) (has : Pool) → Stored store (has .used) → Counted (sceneOf t [] []) (logOf store (has .used)) → Ready t line sheet starts store there inner has
       rule-ready store has st counts =
@@ -135,9 +135,9 @@ module _ {t line sheet starts store₀ : List ℕ} {place : Place} {w : Walker} 
           ∙ sym (rule-parts t line sheet (ready .table) group k (omega (arith, many)))
 
       -- a rule begins with no argument, and no count
-      pub rule-stands : (store : List ℕ) (u : ℕ) → Stands t store u there 0 (toCome t there) (inner .cursor)
+      pub rule-stands : (store : List ℕ) (u : ℕ) {n : ℕ} → n ≡ 0 → Stands t store u there n (toCome t there) (inner .cursor)
       unfolding chainAt sceneOf
-      rule-stands store u = record { own = first; so-far = so-start (sceneOf t [] []) (sym parts-are); small = omega arith }
+      rule-stands store u z = record { own = first; so-far = so-start (sceneOf t [] []) (sym parts-are) z; small = omega arith }
 
       plan-is : rulePlan t line sheet (d + 1) (parts .at) (parts .end) (inner .limit) (inner .cursor)
           ≡ walk s (under s (depths - (d + 1))) (λ e. true) (s .parts group k) (inner .limit) (inner .cursor)

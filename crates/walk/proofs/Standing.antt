@@ -91,7 +91,7 @@ module _ {t : List ℕ} {place : Place} {part : Part} (takes : isParameter part 
   pub kept-counted : Counted s (logOf store′ (more .used))
   kept-counted = subst (Counted s) (sym grown) (argument-counted s log counted arg (stands .own) given recorded)
 
-  pub kept-stands : {e : ℕ} → n′ ≤ e → Stands t store′ (more .used) (afterArg place (more .used) n′) n′ rest e
+  pub kept-stands : {e : ℕ} → n′ ≤ e → Stands t store′ (more .used) (afterArg place (more .used)) n′ rest e
   kept-stands small = record {
     own = subst (λ (l : List Record). CountedTo s (place .set) (place .rule) l (more .used)) (sym grown)
         (subst (CountedTo s (place .set) (place .rule) (log ++ (Kept arg (place .args) n′ ∷ []))) number (argument-own s log counted arg (stands .own) given recorded));

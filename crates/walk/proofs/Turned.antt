@@ -45,7 +45,7 @@ pub left-same : {t : List ℕ} {o o′ : Outcome (List Found)} {place : Place} {
 left-same {t = t} {place = place} {log = log} {store = store} {r = r} e m = subst (λ x. Left t x place log store r) e m
 
 -- another place in the same pattern
-pub left-past : {t : List ℕ} {o : Outcome (List Found)} {place : Place} {n c : ℕ} {log : List Record} {store : List ℕ} {r : Walked} → Left t o (pastAt place n c) log store r → Left t o place log store r
+pub left-past : {t : List ℕ} {o : Outcome (List Found)} {place : Place} {n : ℕ} {log : List Record} {store : List ℕ} {r : Walked} → Left t o (pastAt place n) log store r → Left t o place log store r
 left-past (went x) = went (record { founds = x .founds; done-with = x .done-with; made = x .made; counted = x .counted })
 left-past (halted e) = halted e
 
@@ -64,7 +64,7 @@ module _ {t : List ℕ} {A : Type 0} (f : A → Plan (List Found)) (place : Plac
     (stored₀ : Stored store₀ u₀) (few : place .args ≤ u₀)
     (arg : Argument) (n : ℕ) (p : Plan (List Found)) (y : A) (same : f y ≡ turn (entries store u) arg p)
     (store′ : List ℕ) (more : Pool) (inner : InnerEarlier u (arg .kind)) (added : Added u store store′ (Kept arg (place .args) n) more)
-    {r : Walked} {store″ : List ℕ} (m : Left t (ran p v more) (afterArg place (more .used) n) (logOf store′ (more .used)) store″ r) where
+    {r : Walked} {store″ : List ℕ} (m : Left t (ran p v more) (afterArg place (more .used)) (logOf store′ (more .used)) store″ r) where
   many₀ : length (logOf store₀ u₀) ≡ u₀
   many₀ = log-length store₀ u₀ (omega (arith, stored₀ .sized, stored₀ .room))
 

@@ -81,18 +81,18 @@ module _ (place : Place) (arg : Argument) (n : ℕ) (p : Plan (List Found)) (lef
       number : more .used ≡ suc (length log)
       number = omega (arith, added .counted, many)
 
-  whole-is : (x : Found) → wholeAt (afterArg place (more .used) n) log′ x ≡ wholeAt place log (onto es arg x)
+  whole-is : (x : Found) → wholeAt (afterArg place (more .used)) log′ x ≡ wholeAt place log (onto es arg x)
   whole-is x = ap (λ (c : Chain). (node (place .set) (place .rule) (unwind c (x .0)), x .1)) turn-chain
       ∙ ap (λ (a : Args). (node (place .set) (place .rule) a, x .1)) (unwound es (chainAt es (place .args)) (arg .start) (arg .end) (arg .kind) (x .0))
 
   pub turn-stop : {n l : ℕ} → ran p left more ≡ stop n l → run (turn es arg p) left u ≡ stop n l
   turn-stop e = keep-more (mapped (onto es arg) p) left u (added .room) ∙ ap (run (mapped (onto es arg) p) left) (sym (added .counted)) ∙ mapped-stop (onto es arg) p left (more .used) e
 
-  module _ {t : List ℕ} {l : ℕ} {q : Pool} {store″ : List ℕ} (r : Reached t l q (ran p left more) (afterArg place (more .used) n) log′ store″) where
+  module _ {t : List ℕ} {l : ℕ} {q : Pool} {store″ : List ℕ} (r : Reached t l q (ran p left more) (afterArg place (more .used)) log′ store″) where
     pub turn-done : run (turn es arg p) left u ≡ done l (q .used) (map (onto es arg) (r .founds))
     turn-done = keep-more (mapped (onto es arg) p) left u (added .room) ∙ ap (run (mapped (onto es arg) p) left) (sym (added .counted)) ∙ mapped-done (onto es arg) p left (more .used) (r .done-with)
 
     pub turn-made : Made (place .depth) log (logOf store″ (q .used)) (map (wholeAt place log) (map (onto es arg) (r .founds)))
     turn-made =
-        subst (Made (place .depth) log (logOf store″ (q .used))) (map-map (wholeAt place log) (onto es arg) (wholeAt (afterArg place (more .used) n) log′) whole-is (r .founds))
+        subst (Made (place .depth) log (logOf store″ (q .used))) (map-map (wholeAt place log) (onto es arg) (wholeAt (afterArg place (more .used)) log′) whole-is (r .founds))
         (made-join (kept (place .depth)) (r .made))

@@ -157,11 +157,11 @@ pub data Left (t : List ℕ) (o : Outcome (List Found)) (place : Place) (log : L
 
 -- ---- a place moved
 
-abbrev pub pastAt : Place → ℕ → ℕ → Place
-pastAt p n c = record { set = p .set; rule = p .rule; at = n; end = p .end; depth = p .depth; args = p .args; count = c }
+abbrev pub pastAt : Place → ℕ → Place
+pastAt p n = record { set = p .set; rule = p .rule; at = n; end = p .end; depth = p .depth; args = p .args }
 
-abbrev pub afterArg : Place → ℕ → ℕ → Place
-afterArg p n c = record { set = p .set; rule = p .rule; at = p .at; end = p .end; depth = p .depth; args = n; count = c }
+abbrev pub afterArg : Place → ℕ → Place
+afterArg p n = record { set = p .set; rule = p .rule; at = p .at; end = p .end; depth = p .depth; args = n }
 
 -- ---- inner matches
 

@@ -21,7 +21,7 @@ ghost use Rattle.pool.specs.Meaning.{Stored, entries, treeAt, gathered};
 ghost use Rattle.walk.specs.Met.{Ready, Stands, toCome, fromExpr, fromNest, Ended, Left, finishPlan, rulePlan, exprPlan, nestedPlan, ran, pastAt, afterArg, made, InnerOf};
 
 // Where a walk stands: a rule, by its ruleset and its number there; the places of its part words that are still to come; how
-// deep it is nested; its last argument so far, as the pool counts arguments; the exact count of its match so far.
+// deep it is nested; its last argument so far, as the pool counts arguments.
 pub struct Place {
     pub set: usize,
     pub rule: usize,
@@ -29,13 +29,12 @@ pub struct Place {
     pub end: usize,
     pub depth: usize,
     pub args: usize,
-    pub count: usize,
 }
 
 impl Place {
-    // The same pattern from another place on, with the count so far.
-    fn past(self, at: usize, count: usize) -> Place
-        ensures { λ r. ⌜ r ≡ pastAt self at count ⌝ }
+    // The same pattern from another place on.
+    fn past(self, at: usize) -> Place
+        ensures { λ r. ⌜ r ≡ pastAt self at ⌝ }
     {
         Place {
             set: self.set,
@@ -44,13 +43,12 @@ impl Place {
             end: self.end,
             depth: self.depth,
             args: self.args,
-            count,
         }
     }
 
-    // The same place after another argument, with the count so far.
-    fn after(self, args: usize, count: usize) -> Place
-        ensures { λ r. ⌜ r ≡ afterArg self args count ⌝ }
+    // The same place after another argument.
+    fn after(self, args: usize) -> Place
+        ensures { λ r. ⌜ r ≡ afterArg self args ⌝ }
     {
         Place {
             set: self.set,
@@ -59,7 +57,6 @@ impl Place {
             end: self.end,
             depth: self.depth,
             args,
-            count,
         }
     }
 }
@@ -86,12 +83,12 @@ pub enum Inner {
     Nothing,
 }
 
-// The end of a pattern. A top rule short of the line's end completes no match.
+// The end of a pattern, whose match has this exact count. A top rule short of the line's end completes no match.
 fn finish(
     line: &[u8],
     store: &mut [usize],
     place: Place,
-    count: usize,
+    exact: usize,
     walker: Walker,
     left: usize,
     pool: Pool,
@@ -104,8 +101,8 @@ fn finish(
     requires { ⌜ walker .cursor < 128 ⌝ }
     requires { ⌜ walker .cursor ≤ walker .limit ⌝ }
     requires { ⌜ (place .depth ≡ 0 → walker .limit ≡ length (now line)) ⌝ }
-    requires { ⌜ count < 128 ⌝ }
-    ensures { λ r. ⌜ ((t : List ℕ) → Ended t (now (store .entry)) (pool .used) place count → Left t (ran (finishPlan (length (now (line .entry))) (place .depth) (walker .cursor)) left pool) place (logOf (now (store .entry)) (pool .used)) (now (store .exit)) r) ⌝ }
+    requires { ⌜ exact < 128 ⌝ }
+    ensures { λ r. ⌜ ((t : List ℕ) → Ended t (now (store .entry)) (pool .used) place exact → Left t (ran (finishPlan (length (now (line .entry))) (place .depth) (walker .cursor)) left pool) place (logOf (now (store .entry)) (pool .used)) (now (store .exit)) r) ⌝ }
 {
     let depth = place.depth;
     if depth == 0 {
@@ -114,7 +111,7 @@ fn finish(
         }
     }
     let end = walker.get_cursor_index();
-    match pool.complete(store, depth, place.set, place.rule, place.args, end, count) {
+    match pool.complete(store, depth, place.set, place.rule, place.args, end, exact) {
         Room::Taken(more) => Walked::Done(left, more),
         Room::Full => Walked::Stopped(Refusal::Full, left),
     }
@@ -176,7 +173,7 @@ fn inner_match(store: &[usize], used: usize, first: usize, m: usize, depth: usiz
     }
 }
 
-// The rule walk, from a place in a pattern on.
+// The rule walk, from a place in a pattern on, with the exact count of its match so far.
 pub fn match_with_rule(
     table: &[u16],
     line: &[u8],
@@ -184,17 +181,18 @@ pub fn match_with_rule(
     starts: &[u16],
     store: &mut [usize],
     place: Place,
+    exact: usize,
     walker: Walker,
     visits: usize,
     pool: Pool,
 ) -> Walked
     requires { ⌜ Ready (now table) (now line) (now sheet) (now starts) (now store) place walker pool ⌝ }
-    requires { ⌜ Stands (now table) (now store) (pool .used) place (place .count) (toCome (now table) place) (walker .cursor) ⌝ }
+    requires { ⌜ Stands (now table) (now store) (pool .used) place exact (toCome (now table) place) (walker .cursor) ⌝ }
     ensures { λ r. ⌜ Left (now (table .entry)) (ran (rulePlan (now (table .entry)) (now (line .entry)) (now (sheet .entry)) (place .depth) (place .at) (place .end) (walker .limit) (walker .cursor)) visits pool) place (logOf (now (store .entry)) (pool .used)) (now (store .exit)) r ⌝ }
 {
     let mut left = visits;
     let mut at = place.at;
-    let mut count = place.count;
+    let mut passed: usize = 0;
     // Held once, so that the compiler need not hold the limit anew at each part.
     let mut here = walker.set_cursor_index(line, walker.get_cursor_index());
     let end = place.end;
@@ -204,7 +202,7 @@ pub fn match_with_rule(
         }
         left -= 1;
         if at == end {
-            return finish(line, store, place, count, here, left, pool);
+            return finish(line, store, place, exact + passed, here, left, pool);
         }
         let part = ruledef::part_at(table, at);
         at += 1;
@@ -214,7 +212,7 @@ pub fn match_with_rule(
                 match step {
                     Step::Past(next) => {
                         here = next;
-                        count += 1;
+                        passed += 1;
                     }
                     Step::Stayed(_) => {
                         return Walked::Done(left, pool);
@@ -234,11 +232,22 @@ pub fn match_with_rule(
                 }
             }
             Part::Expression => {
-                let rest = place.past(at, count);
-                return match_with_expr(table, line, sheet, starts, store, rest, here, left, pool);
+                let rest = place.past(at);
+                return match_with_expr(
+                    table,
+                    line,
+                    sheet,
+                    starts,
+                    store,
+                    rest,
+                    exact + passed,
+                    here,
+                    left,
+                    pool,
+                );
             }
             Part::Nested(set) => {
-                let rest = place.past(at, count);
+                let rest = place.past(at);
                 return match_with_nested_ruledef(
                     table,
                     line,
@@ -247,6 +256,7 @@ pub fn match_with_rule(
                     store,
                     set,
                     rest,
+                    exact + passed,
                     here,
                     left,
                     pool,
@@ -264,12 +274,13 @@ fn match_with_expr(
     starts: &[u16],
     store: &mut [usize],
     place: Place,
+    exact: usize,
     walker: Walker,
     visits: usize,
     pool: Pool,
 ) -> Walked
     requires { ⌜ Ready (now table) (now line) (now sheet) (now starts) (now store) place walker pool ⌝ }
-    requires { ⌜ Stands (now table) (now store) (pool .used) place (place .count) (fromExpr (now table) place) (walker .cursor) ⌝ }
+    requires { ⌜ Stands (now table) (now store) (pool .used) place exact (fromExpr (now table) place) (walker .cursor) ⌝ }
     ensures { λ r. ⌜ Left (now (table .entry)) (ran (exprPlan (now (table .entry)) (now (line .entry)) (now (sheet .entry)) (place .depth) (place .at) (place .end) (walker .limit) (walker .cursor)) visits pool) place (logOf (now (store .entry)) (pool .used)) (now (store .exit)) r ⌝ }
 {
     let useful = walker.next_useful_index(line);
@@ -286,13 +297,13 @@ fn match_with_expr(
             end,
             kind: ArgumentKind::Expr,
         };
-        let room = has.keep(store, argument, place.args, place.count);
+        let room = has.keep(store, argument, place.args, exact);
         match room {
             Room::Full => {
                 return Walked::Stopped(Refusal::Full, left);
             }
             Room::Taken(more) => {
-                let next = place.after(more.used, place.count);
+                let next = place.after(more.used);
                 let moved = walker.set_cursor_index(line, end);
                 let got = match_with_rule(
                     table,
@@ -301,6 +312,7 @@ fn match_with_expr(
                     starts,
                     store,
                     next,
+                    exact,
                     moved,
                     left,
                     more,
@@ -330,12 +342,13 @@ fn match_with_nested_ruledef(
     store: &mut [usize],
     set: usize,
     place: Place,
+    exact: usize,
     walker: Walker,
     visits: usize,
     pool: Pool,
 ) -> Walked
     requires { ⌜ Ready (now table) (now line) (now sheet) (now starts) (now store) place walker pool ⌝ }
-    requires { ⌜ Stands (now table) (now store) (pool .used) place (place .count) (fromNest (now table) set place) (walker .cursor) ⌝ }
+    requires { ⌜ Stands (now table) (now store) (pool .used) place exact (fromNest (now table) set place) (walker .cursor) ⌝ }
     requires { ⌜ set < 32 ⌝ }
     ensures { λ r. ⌜ Left (now (table .entry)) (ran (nestedPlan (now (table .entry)) (now (line .entry)) (now (sheet .entry)) (place .depth) set (place .at) (place .end) (walker .limit) (walker .cursor)) visits pool) place (logOf (now (store .entry)) (pool .used)) (now (store .exit)) r ⌝ }
 {
@@ -364,10 +377,20 @@ fn match_with_nested_ruledef(
                 end: parts.end,
                 depth: depth + 1,
                 args: 0,
-                count: 0,
             };
             rule += 1;
-            let got = match_with_rule(table, line, sheet, starts, store, start, inner, left, has);
+            let got = match_with_rule(
+                table,
+                line,
+                sheet,
+                starts,
+                store,
+                start,
+                0,
+                inner,
+                left,
+                has,
+            );
             match got {
                 Walked::Done(l, q) => {
                     left = l;
@@ -389,19 +412,19 @@ fn match_with_nested_ruledef(
             Inner::Nothing => {}
             Inner::Ends(end, inner) => {
                 let start = least(end, useful);
-                let count = place.count + inner;
+                let sum = exact + inner;
                 let argument = Argument {
                     start,
                     end,
                     kind: ArgumentKind::Nested(here),
                 };
-                let room = has.keep(store, argument, place.args, count);
+                let room = has.keep(store, argument, place.args, sum);
                 match room {
                     Room::Full => {
                         return Walked::Stopped(Refusal::Full, left);
                     }
                     Room::Taken(more) => {
-                        let next = place.after(more.used, count);
+                        let next = place.after(more.used);
                         let moved = walker.set_cursor_index(line, end);
                         let got = match_with_rule(
                             table,
@@ -410,6 +433,7 @@ fn match_with_nested_ruledef(
                             starts,
                             store,
                             next,
+                            sum,
                             moved,
                             left,
                             more,

@@ -86,7 +86,7 @@ new-requires-2 c κs = search needs
 match-with-rule-requires : tie.Need-match-with-rule-requires Inv-loop μ-loop
 match-with-rule-requires c κs = (
   try-ready (c .before .before .before .before .before .before .before .before .before .before .before .before .before .before .before .before .before .pre) _ (c .before .before .before .before .before .before .before .before .loop .inv) (c .before .before .before .before .before .before .before .loop-test .taken) _ refl _ (c .before .new2 .ensures .0) (c .before .new2 .ensures .1) _ refl,
-  try-stands (c .before .before .before .before .before .before .before .before .before .before .before .before .before .before .before .before .before .pre) _ (c .before .before .before .before .before .before .before .before .loop .inv) (c .before .before .before .before .before .before .before .loop-test .taken) _ refl _ (c .before .new2 .ensures .0) (c .before .new2 .ensures .1) _,
+  try-stands (c .before .before .before .before .before .before .before .before .before .before .before .before .before .before .before .before .before .pre) _ (c .before .before .before .before .before .before .before .before .loop .inv) (c .before .before .before .before .before .before .before .loop-test .taken) _ refl _ (c .before .new2 .ensures .0) (c .before .new2 .ensures .1) _ refl,
 )
 
 enum-known-got : tie.Need-enum-known-got Inv-loop μ-loop

@@ -7,7 +7,7 @@ use lib.ListN.{length}
 use borrow.Author.Needs.{needs}
 use borrow.Fn.Kinds.{In}
 use borrow.Fn.PlainCycle.{Measures, is, falls, and}
-use Rattle.walk.proofs.Places.{begun-ready, begun-stands, begun-left, Along, along-start, along-stored, along-small, along-ended, along-spent, along-end, along-exact, along-no-exact, along-whitespace, along-no-whitespace, along-expression, along-nested, step-ready, step-stands, ruleset-few}
+use Rattle.walk.proofs.Places.{begun-ready, begun-stands, begun-left, Along, along-by, along-start, along-stored, along-small, along-ended, along-spent, along-end, along-exact, along-no-exact, along-whitespace, along-no-whitespace, along-expression, along-nested, step-ready, step-stands, ruleset-few}
 use Rattle.walk.proofs.Exprs.{ExprDid, expr-start, expr-end, expr-fits, expr-full, expr-counted, expr-stands, expr-ready, expr-again, expr-halt, ends-three}
 use Rattle.walk.proofs.Rules.{RulesDid, LimitsDid, starts-long, starts-ordered, starts-few, rule-ready, rule-stands, rules-again, rules-stop, rules-start, limits-start, limits-again, limits-stop, limits-two, inner-within}
 use Rattle.walk.proofs.Nests.{NestDid, nest-start, nest-skip, nest-counted, nest-fits, nest-member, nest-full, nest-kept, nest-stands, nest-ready, nest-again, nest-halt, nest-used, nested-deep, nested-stop, nested-grown, nested-since, nested-within, nested-few, nested-halt, nested-done}
@@ -40,13 +40,13 @@ use Rattle.walk.proofs.+match_with_expr+match_with_nested_ruledef+match
 use Rattle.walk.proofs.+match_with_expr+match_with_nested_ruledef+match_with_rule.Tie.{close}
 
 abbrev μ-e : Measures 5 expr-kinds.ps ℕ
-μ-e κs a = 2 * a .1 .1 .1 .1 .1 .1 .1 .0 + 1
+μ-e κs a = 2 * a .1 .1 .1 .1 .1 .1 .1 .1 .0 + 1
 
 abbrev μ-n : Measures 5 nested-kinds.ps ℕ
-μ-n κs a = 2 * a .1 .1 .1 .1 .1 .1 .1 .1 .0 + 1
+μ-n κs a = 2 * a .1 .1 .1 .1 .1 .1 .1 .1 .1 .0 + 1
 
 abbrev μ-r : Measures 5 rule-kinds.ps ℕ
-μ-r κs a = 2 * a .1 .1 .1 .1 .1 .1 .1 .0
+μ-r κs a = 2 * a .1 .1 .1 .1 .1 .1 .1 .1 .0
 
 abbrev e-at : ℕ → In 5 expr-kinds.ps
 e-at t = and 5 expr-kinds.ps (is 5 expr-kinds.ps μ-e t) expr.Pre
@@ -77,39 +77,39 @@ abbrev r-calls : ℕ → R.Claims
 r-calls t = (get-cursor-index.Asked, get-cursor-index.Learnt, set-cursor-index.Asked, set-cursor-index.Learnt, finish.Asked, finish.Learnt, part-at.Asked, part-at.Learnt, maybe-expect-char.Asked, maybe-expect-char.Learnt, maybe-expect-whitespace.Asked, maybe-expect-whitespace.Learnt, past.Asked, past.Learnt, e-below t, expr.Post, n-below t, nested.Post)
 
 abbrev e-Inv : E.InvT-loop
-e-Inv table line sheet starts store₀ place walker visits useful ends left₀ has₀ i₀ store left has i =
+e-Inv table line sheet starts store₀ place exact walker visits useful ends left₀ has₀ i₀ store left has i =
     ExprDid table line sheet place (walker .limit) useful ends left₀ (has₀ .used) store₀ i left (has .used) store
 
 abbrev e-μ : E.MeasureT-loop
-e-μ table line sheet starts store₀ place walker visits useful ends left₀ has₀ i₀ store left has i = ends .count - i
+e-μ table line sheet starts store₀ place exact walker visits useful ends left₀ has₀ i₀ store left has i = ends .count - i
 
 abbrev n-Inv2 : N.InvT-loop2
-n-Inv2 table line sheet starts store₀ set place walker visits depth useful limits begin count first left₀ has₀ pass inner rule₀ store left has rule =
+n-Inv2 table line sheet starts store₀ set place exact walker visits depth useful limits begin count first left₀ has₀ pass inner rule₀ store left has rule =
     RulesDid table line sheet depth set inner count left₀ (has₀ .used) store₀ rule left (has .used) store
 
 abbrev n-μ2 : N.MeasureT-loop2
-n-μ2 table line sheet starts store₀ set place walker visits depth useful limits begin count first left₀ has₀ pass inner rule₀ store left has rule = count - rule
+n-μ2 table line sheet starts store₀ set place exact walker visits depth useful limits begin count first left₀ has₀ pass inner rule₀ store left has rule = count - rule
 
 abbrev n-Inv : N.InvT-loop
-n-Inv table line sheet starts store₀ set place walker visits depth useful limits begin count first left₀ has₀ pass₀ store left has pass =
+n-Inv table line sheet starts store₀ set place exact walker visits depth useful limits begin count first left₀ has₀ pass₀ store left has pass =
     LimitsDid table line sheet depth set (walker .cursor) limits left₀ (has₀ .used) store₀ pass left (has .used) store
 
 abbrev n-μ : N.MeasureT-loop
-n-μ table line sheet starts store₀ set place walker visits depth useful limits begin count first left₀ has₀ pass₀ store left has pass = limits .count - pass
+n-μ table line sheet starts store₀ set place exact walker visits depth useful limits begin count first left₀ has₀ pass₀ store left has pass = limits .count - pass
 
 abbrev n-Inv3 : N.InvT-loop3
-n-Inv3 table line sheet starts store₀ set place walker visits depth useful begin count first left₀ has₀ pass last m₀ store left has m =
+n-Inv3 table line sheet starts store₀ set place exact walker visits depth useful begin count first left₀ has₀ pass last m₀ store left has m =
     NestDid table line sheet place (walker .limit) useful first left₀ (has₀ .used) store₀ m left (has .used) store
 
 abbrev n-μ3 : N.MeasureT-loop3
-n-μ3 table line sheet starts store₀ set place walker visits depth useful begin count first left₀ has₀ pass last m₀ store left has m = last - m
+n-μ3 table line sheet starts store₀ set place exact walker visits depth useful begin count first left₀ has₀ pass last m₀ store left has m = last - m
 
 abbrev r-Inv : R.InvT-loop
-r-Inv table line sheet starts store₀ place visits pool left₀ at₀ count₀ here₀ end store left at count here =
-    Along table line sheet place here₀ end (pool .used) store₀ left₀ at₀ store left at count here
+r-Inv table line sheet starts store₀ place exact visits pool left₀ at₀ passed₀ here₀ end store left at passed here =
+    Along table line sheet place here₀ end (pool .used) store₀ left₀ at₀ store left at (exact + passed) here
 
 abbrev r-μ : R.MeasureT-loop
-r-μ table line sheet starts store₀ place visits pool left₀ at₀ count₀ here₀ end store left at count here = left
+r-μ table line sheet starts store₀ place exact visits pool left₀ at₀ passed₀ here₀ end store left at passed here = left
 
 e-next-useful-index-requires : (t : ℕ) → E.Need-next-useful-index-requires (e-calls t) (e-at t) expr.Post e-Inv e-μ
 e-next-useful-index-requires t c κs = search needs
@@ -162,7 +162,7 @@ e-keep-requires t c κs =
     let c-find-ends = c .before .before .before .before .before .find-ends in
     let c-loop-test = c .before .before .before .loop-test in
     let c-least = c .before .least in
-    (c-loop .inv .stored .sized, (c-loop .inv .stored .room, expr-fits (c-pre .1 .0) _ _ (c-next-useful-index .ensures) _ (c-find-ends .ensures) (c-loop .inv) (c-loop-test .taken) _ refl (c-least .ensures) (c-pre .1 .1 .small)))
+    (c-loop .inv .stored .sized, (c-loop .inv .stored .room, expr-fits (c-pre .1 .0) _ _ (c-next-useful-index .ensures) _ (c-find-ends .ensures) (c-loop .inv) (c-loop-test .taken) _ refl (c-least .ensures) (omega (arith, c-pre .1 .1 .small))))
 
 e-enum-told : (t : ℕ) → E.Need-enum-told (e-calls t) (e-at t) expr.Post e-Inv e-μ
 e-enum-told t c = search needs
@@ -410,8 +410,8 @@ n-cast-parts-of t c =
 n-parts-of-requires : (t : ℕ) → N.Need-parts-of-requires (n-calls t) (n-at t) nested.Post n-Inv2 n-μ2 n-Inv n-μ n-Inv3 n-μ3
 n-parts-of-requires t c κs = search needs
 
-n-add-t62 : (t : ℕ) → N.Need-add-t62 (n-calls t) (n-at t) nested.Post n-Inv2 n-μ2 n-Inv n-μ n-Inv3 n-μ3
-n-add-t62 t c =
+n-add-t63 : (t : ℕ) → N.Need-add-t63 (n-calls t) (n-at t) nested.Post n-Inv2 n-μ2 n-Inv n-μ n-Inv3 n-μ3
+n-add-t63 t c =
     let c-if1 = c .before .before .before .before .before .before .before .before .before .before .before .if1 in
     omega (arith, c-if1 .left)
 
@@ -437,7 +437,7 @@ n-match-with-rule-requires t c κs =
       omega (arith, c-loop2 .inv .falls, c-loop .inv .falls, c-pre .0),
       (
         rule-ready (c-pre .1 .0) _ (c-pre .1 .1 .1) (c-if1 .left) _ _ refl refl _ (c-loop2-test .taken) _ (c-parts-of .ensures) _ a b _ _ (c-loop2 .inv .stored) (c-loop2 .inv .counted),
-        rule-stands (c-pre .1 .0) _ (c-pre .1 .1 .1) (c-if1 .left) _ _ refl refl _ (c-loop2-test .taken) _ (c-parts-of .ensures) _ a b _ _,
+        rule-stands (c-pre .1 .0) _ (c-pre .1 .1 .1) (c-if1 .left) _ _ refl refl _ (c-loop2-test .taken) _ (c-parts-of .ensures) _ a b _ _ refl,
       ),
     )
 
@@ -548,8 +548,25 @@ n-enum-known-found t c = search needs
 n-least-requires : (t : ℕ) → N.Need-least-requires (n-calls t) (n-at t) nested.Post n-Inv2 n-μ2 n-Inv n-μ n-Inv3 n-μ3
 n-least-requires t c κs = search needs
 
-n-add-count-2 : (t : ℕ) → N.Need-add-count-2 (n-calls t) (n-at t) nested.Post n-Inv2 n-μ2 n-Inv n-μ n-Inv3 n-μ3
-n-add-count-2 t c =
+n-add-sum : (t : ℕ) → N.Need-add-sum (n-calls t) (n-at t) nested.Post n-Inv2 n-μ2 n-Inv n-μ n-Inv3 n-μ3
+n-add-sum t c =
+    let c-pre = c .before .before .before .before .before .before .before .before .before .before .before .before .before .before .before .before .before .before .before .before .pre in
+    let c-if1 = c .before .before .before .before .before .before .before .before .before .before .before .before .before .before .if1 in
+    let c-next-useful-index = c .before .before .before .before .before .before .before .before .before .before .before .before .before .next-useful-index in
+    let c-find-limits = c .before .before .before .before .before .before .before .before .before .before .before .before .find-limits in
+    let c-loop = c .before .before .before .before .before .before .before .before .before .loop in
+    let c-loop-test = c .before .before .before .before .before .before .before .before .loop-test in
+    let c-loop3 = c .before .before .before .before .before .before .before .loop3 in
+    let c-loop3-test = c .before .before .before .before .before .before .loop3-test in
+    let c-inner-match = c .before .before .before .before .inner-match in
+    let c-found = c .before .before .found in
+    let few = nested-few (c-pre .1 .0) _ _ (c-pre .1 .1 .1) (c-if1 .left) _ _ refl refl _ (c-next-useful-index .ensures) _ (c-find-limits .ensures) (c-loop .inv) (c-loop-test .left)
+    (nest-member (c-pre .1 .0) (c-if1 .left) _ (c-loop3 .inv) (c-loop3-test .taken) _ (c-inner-match .ensures) _ _ (c-found .given .1))
+    (nest-counted (c-pre .1 .0) (c-if1 .left) _ (c-loop3 .inv) (c-loop3-test .taken) _ (c-inner-match .ensures) _ _ (c-found .given .1)) (c-pre .1 .1 .0 .small) in
+    omega (arith, few)
+
+n-keep-requires : (t : ℕ) → N.Need-keep-requires (n-calls t) (n-at t) nested.Post n-Inv2 n-μ2 n-Inv n-μ n-Inv3 n-μ3
+n-keep-requires t c κs =
     let c-pre = c .before .before .before .before .before .before .before .before .before .before .before .before .before .before .before .before .before .before .before .before .before .pre in
     let c-if1 = c .before .before .before .before .before .before .before .before .before .before .before .before .before .before .before .if1 in
     let c-next-useful-index = c .before .before .before .before .before .before .before .before .before .before .before .before .before .before .next-useful-index in
@@ -560,28 +577,11 @@ n-add-count-2 t c =
     let c-loop3-test = c .before .before .before .before .before .before .before .loop3-test in
     let c-inner-match = c .before .before .before .before .before .inner-match in
     let c-found = c .before .before .before .found in
+    let c-least = c .before .least in
     let few = nested-few (c-pre .1 .0) _ _ (c-pre .1 .1 .1) (c-if1 .left) _ _ refl refl _ (c-next-useful-index .ensures) _ (c-find-limits .ensures) (c-loop .inv) (c-loop-test .left)
     (nest-member (c-pre .1 .0) (c-if1 .left) _ (c-loop3 .inv) (c-loop3-test .taken) _ (c-inner-match .ensures) _ _ (c-found .given .1))
     (nest-counted (c-pre .1 .0) (c-if1 .left) _ (c-loop3 .inv) (c-loop3-test .taken) _ (c-inner-match .ensures) _ _ (c-found .given .1)) (c-pre .1 .1 .0 .small) in
-    omega (arith, few)
-
-n-keep-requires : (t : ℕ) → N.Need-keep-requires (n-calls t) (n-at t) nested.Post n-Inv2 n-μ2 n-Inv n-μ n-Inv3 n-μ3
-n-keep-requires t c κs =
-    let c-pre = c .before .before .before .before .before .before .before .before .before .before .before .before .before .before .before .before .before .before .before .before .before .before .pre in
-    let c-if1 = c .before .before .before .before .before .before .before .before .before .before .before .before .before .before .before .before .if1 in
-    let c-next-useful-index = c .before .before .before .before .before .before .before .before .before .before .before .before .before .before .before .next-useful-index in
-    let c-find-limits = c .before .before .before .before .before .before .before .before .before .before .before .before .before .before .find-limits in
-    let c-loop = c .before .before .before .before .before .before .before .before .before .before .before .loop in
-    let c-loop-test = c .before .before .before .before .before .before .before .before .before .before .loop-test in
-    let c-loop3 = c .before .before .before .before .before .before .before .before .before .loop3 in
-    let c-loop3-test = c .before .before .before .before .before .before .before .before .loop3-test in
-    let c-inner-match = c .before .before .before .before .before .before .inner-match in
-    let c-found = c .before .before .before .before .found in
-    let c-least = c .before .before .least in
-    let few = nested-few (c-pre .1 .0) _ _ (c-pre .1 .1 .1) (c-if1 .left) _ _ refl refl _ (c-next-useful-index .ensures) _ (c-find-limits .ensures) (c-loop .inv) (c-loop-test .left)
-    (nest-member (c-pre .1 .0) (c-if1 .left) _ (c-loop3 .inv) (c-loop3-test .taken) _ (c-inner-match .ensures) _ _ (c-found .given .1))
-    (nest-counted (c-pre .1 .0) (c-if1 .left) _ (c-loop3 .inv) (c-loop3-test .taken) _ (c-inner-match .ensures) _ _ (c-found .given .1)) (c-pre .1 .1 .0 .small) in
-    (c-loop3 .inv .did .stored .sized, (c-loop3 .inv .did .stored .room, nest-fits (c-pre .1 .0) (c-if1 .left) _ (c-loop3 .inv) (c-loop3-test .taken) _ (c-inner-match .ensures) _ _ (c-found .given .1) (c-least .ensures) (few .0)))
+    (c-loop3 .inv .did .stored .sized, (c-loop3 .inv .did .stored .room, nest-fits (c-pre .1 .0) (c-if1 .left) _ (c-loop3 .inv) (c-loop3-test .taken) _ (c-inner-match .ensures) _ _ (c-found .given .1) (c-least .ensures) (omega (arith, few))))
 
 n-enum-told-2 : (t : ℕ) → N.Need-enum-told-2 (n-calls t) (n-at t) nested.Post n-Inv2 n-μ2 n-Inv n-μ n-Inv3 n-μ3
 n-enum-told-2 t c = search needs
@@ -589,22 +589,22 @@ n-enum-told-2 t c = search needs
 n-same-length-2 : (t : ℕ) → N.Need-same-length-2 (n-calls t) (n-at t) nested.Post n-Inv2 n-μ2 n-Inv n-μ n-Inv3 n-μ3
 n-same-length-2 t c =
     let c-keep = c .before .before .before .before .keep in
-    let c-loop3 = c .before .before .before .before .before .before .before .before .before .before .before .before .before .before .loop3 in
-    let c-pre = c .before .before .before .before .before .before .before .before .before .before .before .before .before .before .before .before .before .before .before .before .before .before .before .before .before .before .before .pre in
+    let c-loop3 = c .before .before .before .before .before .before .before .before .before .before .before .before .before .loop3 in
+    let c-pre = c .before .before .before .before .before .before .before .before .before .before .before .before .before .before .before .before .before .before .before .before .before .before .before .before .before .before .pre in
     omega (arith, c-keep .kept, c-loop3 .inv .did .stored .sized, c-pre .1 .0 .stored .sized)
 
 n-returns-3 : (t : ℕ) → N.Need-returns-3 (n-calls t) (n-at t) nested.Post n-Inv2 n-μ2 n-Inv n-μ n-Inv3 n-μ3
 n-returns-3 t c =
-    let c-pre = c .before .before .before .before .before .before .before .before .before .before .before .before .before .before .before .before .before .before .before .before .before .before .before .before .before .before .before .pre in
-    let c-if1 = c .before .before .before .before .before .before .before .before .before .before .before .before .before .before .before .before .before .before .before .before .before .if1 in
-    let c-next-useful-index = c .before .before .before .before .before .before .before .before .before .before .before .before .before .before .before .before .before .before .before .before .next-useful-index in
-    let c-find-limits = c .before .before .before .before .before .before .before .before .before .before .before .before .before .before .before .before .before .before .before .find-limits in
-    let c-loop = c .before .before .before .before .before .before .before .before .before .before .before .before .before .before .before .before .loop in
-    let c-loop-test = c .before .before .before .before .before .before .before .before .before .before .before .before .before .before .before .loop-test in
-    let c-loop3 = c .before .before .before .before .before .before .before .before .before .before .before .before .before .before .loop3 in
-    let c-loop3-test = c .before .before .before .before .before .before .before .before .before .before .before .before .before .loop3-test in
-    let c-inner-match = c .before .before .before .before .before .before .before .before .before .before .before .inner-match in
-    let c-found = c .before .before .before .before .before .before .before .before .before .found in
+    let c-pre = c .before .before .before .before .before .before .before .before .before .before .before .before .before .before .before .before .before .before .before .before .before .before .before .before .before .before .pre in
+    let c-if1 = c .before .before .before .before .before .before .before .before .before .before .before .before .before .before .before .before .before .before .before .before .if1 in
+    let c-next-useful-index = c .before .before .before .before .before .before .before .before .before .before .before .before .before .before .before .before .before .before .before .next-useful-index in
+    let c-find-limits = c .before .before .before .before .before .before .before .before .before .before .before .before .before .before .before .before .before .before .find-limits in
+    let c-loop = c .before .before .before .before .before .before .before .before .before .before .before .before .before .before .before .loop in
+    let c-loop-test = c .before .before .before .before .before .before .before .before .before .before .before .before .before .before .loop-test in
+    let c-loop3 = c .before .before .before .before .before .before .before .before .before .before .before .before .before .loop3 in
+    let c-loop3-test = c .before .before .before .before .before .before .before .before .before .before .before .before .loop3-test in
+    let c-inner-match = c .before .before .before .before .before .before .before .before .before .before .inner-match in
+    let c-found = c .before .before .before .before .before .before .before .before .found in
     let c-enum-told2 = c .enum-told2 in
     let c-keep = c .before .before .before .before .keep in
     nested-halt (c-pre .1 .0) _ _ (c-pre .1 .1 .1) (c-if1 .left) _ _ refl refl _ (c-next-useful-index .ensures) _ (c-find-limits .ensures) (c-loop .inv) (c-loop-test .left) _
@@ -621,20 +621,20 @@ n-set-cursor-index-requires t c κs = search needs
 
 n-match-with-rule-requires-2 : (t : ℕ) → N.Need-match-with-rule-requires-2 (n-calls t) (n-at t) nested.Post n-Inv2 n-μ2 n-Inv n-μ n-Inv3 n-μ3
 n-match-with-rule-requires-2 t c κs =
-    let c-loop3 = c .before .before .before .before .before .before .before .before .before .before .before .before .before .before .before .before .before .before .loop3 in
-    let c-loop = c .before .before .before .before .before .before .before .before .before .before .before .before .before .before .before .before .before .before .before .before .loop in
-    let c-pre = c .before .before .before .before .before .before .before .before .before .before .before .before .before .before .before .before .before .before .before .before .before .before .before .before .before .before .before .before .before .before .before .pre in
-    let c-if1 = c .before .before .before .before .before .before .before .before .before .before .before .before .before .before .before .before .before .before .before .before .before .before .before .before .before .if1 in
-    let c-loop3-test = c .before .before .before .before .before .before .before .before .before .before .before .before .before .before .before .before .before .loop3-test in
-    let c-inner-match = c .before .before .before .before .before .before .before .before .before .before .before .before .before .before .before .inner-match in
-    let c-found = c .before .before .before .before .before .before .before .before .before .before .before .before .before .found in
-    let c-least = c .before .before .before .before .before .before .before .before .before .before .before .least in
+    let c-loop3 = c .before .before .before .before .before .before .before .before .before .before .before .before .before .before .before .before .before .loop3 in
+    let c-loop = c .before .before .before .before .before .before .before .before .before .before .before .before .before .before .before .before .before .before .before .loop in
+    let c-pre = c .before .before .before .before .before .before .before .before .before .before .before .before .before .before .before .before .before .before .before .before .before .before .before .before .before .before .before .before .before .before .pre in
+    let c-if1 = c .before .before .before .before .before .before .before .before .before .before .before .before .before .before .before .before .before .before .before .before .before .before .before .before .if1 in
+    let c-loop3-test = c .before .before .before .before .before .before .before .before .before .before .before .before .before .before .before .before .loop3-test in
+    let c-inner-match = c .before .before .before .before .before .before .before .before .before .before .before .before .before .before .inner-match in
+    let c-found = c .before .before .before .before .before .before .before .before .before .before .before .before .found in
+    let c-least = c .before .before .before .before .before .before .before .before .before .before .least in
     let c-room = c .before .before .before .before .room in
     let c-keep = c .before .before .before .before .before .before .before .before .keep in
     let c-after = c .before .before .after in
-    let c-next-useful-index = c .before .before .before .before .before .before .before .before .before .before .before .before .before .before .before .before .before .before .before .before .before .before .before .before .next-useful-index in
-    let c-find-limits = c .before .before .before .before .before .before .before .before .before .before .before .before .before .before .before .before .before .before .before .before .before .before .before .find-limits in
-    let c-loop-test = c .before .before .before .before .before .before .before .before .before .before .before .before .before .before .before .before .before .before .before .loop-test in
+    let c-next-useful-index = c .before .before .before .before .before .before .before .before .before .before .before .before .before .before .before .before .before .before .before .before .before .before .before .next-useful-index in
+    let c-find-limits = c .before .before .before .before .before .before .before .before .before .before .before .before .before .before .before .before .before .before .before .before .before .before .find-limits in
+    let c-loop-test = c .before .before .before .before .before .before .before .before .before .before .before .before .before .before .before .before .before .before .loop-test in
     let c-set-cursor-index = c .before .set-cursor-index in
     let few = nested-few (c-pre .1 .0) _ _ (c-pre .1 .1 .1) (c-if1 .left) _ _ refl refl _ (c-next-useful-index .ensures) _ (c-find-limits .ensures) (c-loop .inv) (c-loop-test .left)
     (nest-member (c-pre .1 .0) (c-if1 .left) _ (c-loop3 .inv) (c-loop3-test .taken) _ (c-inner-match .ensures) _ _ (c-found .given .1))
@@ -644,9 +644,9 @@ n-match-with-rule-requires-2 t c κs =
     let (since, grown) = nested-since (c-pre .1 .0) _ _ (c-pre .1 .1 .1) (c-if1 .left) _ _ refl refl _ (c-next-useful-index .ensures) _ (c-find-limits .ensures) (c-loop .inv) (c-loop-test .left) in (
       omega (arith, c-loop3 .inv .did .falls, c-loop .inv .falls, c-pre .0),
       (
-        nest-ready (c-pre .1 .0) (c-if1 .left) _ (c-loop3 .inv) (c-loop3-test .taken) _ (c-inner-match .ensures) _ _ (c-found .given .1) _ (c-least .ensures) _ refl _ _ (rw (c-room .given .1) at (c-keep .ensures .log)) (c-after .ensures) within (omega (arith, c-keep .kept, c-loop3 .inv .did .stored .sized))
-            (nest-kept (c-pre .1 .0) (c-if1 .left) _ (c-loop3 .inv) (c-loop3-test .taken) _ (c-inner-match .ensures) _ _ (c-found .given .1) _ (c-least .ensures) _ refl _ _ (rw (c-room .given .1) at (c-keep .ensures .log)) (c-pre .1 .1 .0) since grown) (c-set-cursor-index .ensures),
-        nest-stands (c-pre .1 .0) (c-if1 .left) _ (c-loop3 .inv) (c-loop3-test .taken) _ (c-inner-match .ensures) _ _ (c-found .given .1) _ (c-least .ensures) _ refl _ _ (rw (c-room .given .1) at (c-keep .ensures .log)) (c-pre .1 .1 .0) since grown (c-after .ensures) within (few .0) (c-set-cursor-index .ensures),
+        nest-ready (c-pre .1 .0) (c-if1 .left) _ (c-loop3 .inv) (c-loop3-test .taken) _ (c-inner-match .ensures) _ _ (c-found .given .1) _ (c-least .ensures) _ _ (rw (c-room .given .1) at (c-keep .ensures .log)) (c-after .ensures) within (omega (arith, c-keep .kept, c-loop3 .inv .did .stored .sized))
+            (nest-kept (c-pre .1 .0) (c-if1 .left) _ (c-loop3 .inv) (c-loop3-test .taken) _ (c-inner-match .ensures) _ _ (c-found .given .1) _ (c-least .ensures) _ _ (rw (c-room .given .1) at (c-keep .ensures .log)) (c-pre .1 .1 .0) refl since grown) (c-set-cursor-index .ensures),
+        nest-stands (c-pre .1 .0) (c-if1 .left) _ (c-loop3 .inv) (c-loop3-test .taken) _ (c-inner-match .ensures) _ _ (c-found .given .1) _ (c-least .ensures) _ _ (rw (c-room .given .1) at (c-keep .ensures .log)) (c-pre .1 .1 .0) refl since grown (c-after .ensures) within (omega (arith, few)) (c-set-cursor-index .ensures),
       ),
     )
 
@@ -655,29 +655,29 @@ n-enum-known-got-3 t c = search needs
 
 n-loop3-less-2 : (t : ℕ) → N.Need-loop3-less-2 (n-calls t) (n-at t) nested.Post n-Inv2 n-μ2 n-Inv n-μ n-Inv3 n-μ3
 n-loop3-less-2 t c =
-    let c-loop3-test = c .before .before .before .before .before .before .before .before .before .before .before .before .before .before .before .before .before .before .before .before .before .before .before .loop3-test in
+    let c-loop3-test = c .before .before .before .before .before .before .before .before .before .before .before .before .before .before .before .before .before .before .before .before .before .before .loop3-test in
     omega (arith, c-loop3-test .taken)
 
 n-loop3-again-2 : (t : ℕ) → N.Need-loop3-again-2 (n-calls t) (n-at t) nested.Post n-Inv2 n-μ2 n-Inv n-μ n-Inv3 n-μ3
 n-loop3-again-2 t c =
-    let c-pre = c .before .before .before .before .before .before .before .before .before .before .before .before .before .before .before .before .before .before .before .before .before .before .before .before .before .before .before .before .before .before .before .before .before .before .before .before .before .pre in
-    let c-if1 = c .before .before .before .before .before .before .before .before .before .before .before .before .before .before .before .before .before .before .before .before .before .before .before .before .before .before .before .before .before .before .before .if1 in
-    let c-loop3 = c .before .before .before .before .before .before .before .before .before .before .before .before .before .before .before .before .before .before .before .before .before .before .before .before .loop3 in
-    let c-loop3-test = c .before .before .before .before .before .before .before .before .before .before .before .before .before .before .before .before .before .before .before .before .before .before .before .loop3-test in
-    let c-inner-match = c .before .before .before .before .before .before .before .before .before .before .before .before .before .before .before .before .before .before .before .before .before .inner-match in
-    let c-found = c .before .before .before .before .before .before .before .before .before .before .before .before .before .before .before .before .before .before .before .found in
-    let c-least = c .before .before .before .before .before .before .before .before .before .before .before .before .before .before .before .before .before .least in
+    let c-pre = c .before .before .before .before .before .before .before .before .before .before .before .before .before .before .before .before .before .before .before .before .before .before .before .before .before .before .before .before .before .before .before .before .before .before .before .before .pre in
+    let c-if1 = c .before .before .before .before .before .before .before .before .before .before .before .before .before .before .before .before .before .before .before .before .before .before .before .before .before .before .before .before .before .before .if1 in
+    let c-loop3 = c .before .before .before .before .before .before .before .before .before .before .before .before .before .before .before .before .before .before .before .before .before .before .before .loop3 in
+    let c-loop3-test = c .before .before .before .before .before .before .before .before .before .before .before .before .before .before .before .before .before .before .before .before .before .before .loop3-test in
+    let c-inner-match = c .before .before .before .before .before .before .before .before .before .before .before .before .before .before .before .before .before .before .before .before .inner-match in
+    let c-found = c .before .before .before .before .before .before .before .before .before .before .before .before .before .before .before .before .before .before .found in
+    let c-least = c .before .before .before .before .before .before .before .before .before .before .before .before .before .before .before .before .least in
     let c-room = c .before .before .before .before .before .before .before .before .before .before .room in
     let c-keep = c .before .before .before .before .before .before .before .before .before .before .before .before .before .before .keep in
     let c-after = c .before .before .before .before .before .before .before .before .after in
-    let c-next-useful-index = c .before .before .before .before .before .before .before .before .before .before .before .before .before .before .before .before .before .before .before .before .before .before .before .before .before .before .before .before .before .before .next-useful-index in
-    let c-find-limits = c .before .before .before .before .before .before .before .before .before .before .before .before .before .before .before .before .before .before .before .before .before .before .before .before .before .before .before .before .before .find-limits in
-    let c-loop = c .before .before .before .before .before .before .before .before .before .before .before .before .before .before .before .before .before .before .before .before .before .before .before .before .before .before .loop in
-    let c-loop-test = c .before .before .before .before .before .before .before .before .before .before .before .before .before .before .before .before .before .before .before .before .before .before .before .before .before .loop-test in
+    let c-next-useful-index = c .before .before .before .before .before .before .before .before .before .before .before .before .before .before .before .before .before .before .before .before .before .before .before .before .before .before .before .before .before .next-useful-index in
+    let c-find-limits = c .before .before .before .before .before .before .before .before .before .before .before .before .before .before .before .before .before .before .before .before .before .before .before .before .before .before .before .before .find-limits in
+    let c-loop = c .before .before .before .before .before .before .before .before .before .before .before .before .before .before .before .before .before .before .before .before .before .before .before .before .before .loop in
+    let c-loop-test = c .before .before .before .before .before .before .before .before .before .before .before .before .before .before .before .before .before .before .before .before .before .before .before .before .loop-test in
     let c-set-cursor-index = c .before .before .before .before .before .before .before .set-cursor-index in
     let c-match-with-rule2 = c .before .before .before .before .before .match-with-rule2 in
     let c-got3 = c .before .got3 in
-    nest-again (c-pre .1 .0) (c-if1 .left) _ (c-loop3 .inv) (c-loop3-test .taken) _ (c-inner-match .ensures) _ _ (c-found .given .1) _ (c-least .ensures) _ refl _ _ (rw (c-room .given .1) at (c-keep .ensures .log)) (c-after .ensures)
+    nest-again (c-pre .1 .0) (c-if1 .left) _ (c-loop3 .inv) (c-loop3-test .taken) _ (c-inner-match .ensures) _ _ (c-found .given .1) _ (c-least .ensures) _ _ (rw (c-room .given .1) at (c-keep .ensures .log)) (c-after .ensures)
     (nested-within (c-pre .1 .0) _ _ (c-pre .1 .1 .1) (c-if1 .left) _ _ refl refl _ (c-next-useful-index .ensures) _ (c-find-limits .ensures) (c-loop .inv) (c-loop-test .left)
     (nest-member (c-pre .1 .0) (c-if1 .left) _ (c-loop3 .inv) (c-loop3-test .taken) _ (c-inner-match .ensures) _ _ (c-found .given .1)) .0)
     (c-set-cursor-index .ensures) (c-match-with-rule2 .ensures) (c-got3 .given .1)
@@ -690,23 +690,23 @@ n-same-length-3 : (t : ℕ) → N.Need-same-length-3 (n-calls t) (n-at t) nested
 n-same-length-3 t c =
     let c-match-with-rule2 = c .before .before .before .before .before .match-with-rule2 in
     let c-keep = c .before .before .before .before .before .before .before .before .before .before .before .before .before .before .keep in
-    let c-loop3 = c .before .before .before .before .before .before .before .before .before .before .before .before .before .before .before .before .before .before .before .before .before .before .before .before .loop3 in
-    let c-pre = c .before .before .before .before .before .before .before .before .before .before .before .before .before .before .before .before .before .before .before .before .before .before .before .before .before .before .before .before .before .before .before .before .before .before .before .before .before .pre in
+    let c-loop3 = c .before .before .before .before .before .before .before .before .before .before .before .before .before .before .before .before .before .before .before .before .before .before .before .loop3 in
+    let c-pre = c .before .before .before .before .before .before .before .before .before .before .before .before .before .before .before .before .before .before .before .before .before .before .before .before .before .before .before .before .before .before .before .before .before .before .before .before .pre in
     omega (arith, c-match-with-rule2 .kept, c-keep .kept, c-loop3 .inv .did .stored .sized, c-pre .1 .0 .stored .sized)
 
 n-returns-4 : (t : ℕ) → N.Need-returns-4 (n-calls t) (n-at t) nested.Post n-Inv2 n-μ2 n-Inv n-μ n-Inv3 n-μ3
 n-returns-4 t c =
-    let c-pre = c .before .before .before .before .before .before .before .before .before .before .before .before .before .before .before .before .before .before .before .before .before .before .before .before .before .before .before .before .before .before .before .before .before .before .before .before .before .pre in
-    let c-if1 = c .before .before .before .before .before .before .before .before .before .before .before .before .before .before .before .before .before .before .before .before .before .before .before .before .before .before .before .before .before .before .before .if1 in
-    let c-next-useful-index = c .before .before .before .before .before .before .before .before .before .before .before .before .before .before .before .before .before .before .before .before .before .before .before .before .before .before .before .before .before .before .next-useful-index in
-    let c-find-limits = c .before .before .before .before .before .before .before .before .before .before .before .before .before .before .before .before .before .before .before .before .before .before .before .before .before .before .before .before .before .find-limits in
-    let c-loop = c .before .before .before .before .before .before .before .before .before .before .before .before .before .before .before .before .before .before .before .before .before .before .before .before .before .before .loop in
-    let c-loop-test = c .before .before .before .before .before .before .before .before .before .before .before .before .before .before .before .before .before .before .before .before .before .before .before .before .before .loop-test in
-    let c-loop3 = c .before .before .before .before .before .before .before .before .before .before .before .before .before .before .before .before .before .before .before .before .before .before .before .before .loop3 in
-    let c-loop3-test = c .before .before .before .before .before .before .before .before .before .before .before .before .before .before .before .before .before .before .before .before .before .before .before .loop3-test in
-    let c-inner-match = c .before .before .before .before .before .before .before .before .before .before .before .before .before .before .before .before .before .before .before .before .before .inner-match in
-    let c-found = c .before .before .before .before .before .before .before .before .before .before .before .before .before .before .before .before .before .before .before .found in
-    let c-least = c .before .before .before .before .before .before .before .before .before .before .before .before .before .before .before .before .before .least in
+    let c-pre = c .before .before .before .before .before .before .before .before .before .before .before .before .before .before .before .before .before .before .before .before .before .before .before .before .before .before .before .before .before .before .before .before .before .before .before .before .pre in
+    let c-if1 = c .before .before .before .before .before .before .before .before .before .before .before .before .before .before .before .before .before .before .before .before .before .before .before .before .before .before .before .before .before .before .if1 in
+    let c-next-useful-index = c .before .before .before .before .before .before .before .before .before .before .before .before .before .before .before .before .before .before .before .before .before .before .before .before .before .before .before .before .before .next-useful-index in
+    let c-find-limits = c .before .before .before .before .before .before .before .before .before .before .before .before .before .before .before .before .before .before .before .before .before .before .before .before .before .before .before .before .find-limits in
+    let c-loop = c .before .before .before .before .before .before .before .before .before .before .before .before .before .before .before .before .before .before .before .before .before .before .before .before .before .loop in
+    let c-loop-test = c .before .before .before .before .before .before .before .before .before .before .before .before .before .before .before .before .before .before .before .before .before .before .before .before .loop-test in
+    let c-loop3 = c .before .before .before .before .before .before .before .before .before .before .before .before .before .before .before .before .before .before .before .before .before .before .before .loop3 in
+    let c-loop3-test = c .before .before .before .before .before .before .before .before .before .before .before .before .before .before .before .before .before .before .before .before .before .before .loop3-test in
+    let c-inner-match = c .before .before .before .before .before .before .before .before .before .before .before .before .before .before .before .before .before .before .before .before .inner-match in
+    let c-found = c .before .before .before .before .before .before .before .before .before .before .before .before .before .before .before .before .before .before .found in
+    let c-least = c .before .before .before .before .before .before .before .before .before .before .before .before .before .before .before .before .least in
     let c-room = c .before .before .before .before .before .before .before .before .before .before .room in
     let c-keep = c .before .before .before .before .before .before .before .before .before .before .before .before .before .before .keep in
     let c-after = c .before .before .before .before .before .before .before .before .after in
@@ -714,7 +714,7 @@ n-returns-4 t c =
     let c-match-with-rule2 = c .before .before .before .before .before .match-with-rule2 in
     let c-got4 = c .before .got4 in
     nested-halt (c-pre .1 .0) _ _ (c-pre .1 .1 .1) (c-if1 .left) _ _ refl refl _ (c-next-useful-index .ensures) _ (c-find-limits .ensures) (c-loop .inv) (c-loop-test .left) _
-    (nest-halt (c-pre .1 .0) (c-if1 .left) _ (c-loop3 .inv) (c-loop3-test .taken) _ (c-inner-match .ensures) _ _ (c-found .given .1) _ (c-least .ensures) _ refl _ _ (rw (c-room .given .1) at (c-keep .ensures .log)) (c-after .ensures)
+    (nest-halt (c-pre .1 .0) (c-if1 .left) _ (c-loop3 .inv) (c-loop3-test .taken) _ (c-inner-match .ensures) _ _ (c-found .given .1) _ (c-least .ensures) _ _ (rw (c-room .given .1) at (c-keep .ensures .log)) (c-after .ensures)
     (nested-within (c-pre .1 .0) _ _ (c-pre .1 .1 .1) (c-if1 .left) _ _ refl refl _ (c-next-useful-index .ensures) _ (c-find-limits .ensures) (c-loop .inv) (c-loop-test .left)
     (nest-member (c-pre .1 .0) (c-if1 .left) _ (c-loop3 .inv) (c-loop3-test .taken) _ (c-inner-match .ensures) _ _ (c-found .given .1)) .0)
     (c-set-cursor-index .ensures) (c-match-with-rule2 .ensures) (c-got4 .given .1))
@@ -748,7 +748,7 @@ r-loop-holds t c =
     let c-pre = c .before .before .before .before .before .before .before .pre in
     let c-get-cursor-index = c .before .get-cursor-index in
     let c-set-cursor-index = c .set-cursor-index in
-    along-start (begun-ready (c-pre .1 .0) (c-get-cursor-index .ensures) (c-set-cursor-index .ensures)) _ (begun-stands (c-pre .1 .0) (c-get-cursor-index .ensures) (c-set-cursor-index .ensures) (c-pre .1 .1))
+    along-by (omega arith) (along-start (begun-ready (c-pre .1 .0) (c-get-cursor-index .ensures) (c-set-cursor-index .ensures)) _ (begun-stands (c-pre .1 .0) (c-get-cursor-index .ensures) (c-set-cursor-index .ensures) (c-pre .1 .1)))
 
 r-same-length : (t : ℕ) → R.Need-same-length (r-calls t) (r-at t) rule.Post r-Inv r-μ
 r-same-length t c =
@@ -767,13 +767,21 @@ r-returns t c =
 r-sub-left : (t : ℕ) → R.Need-sub-left (r-calls t) (r-at t) rule.Post r-Inv r-μ
 r-sub-left t c = search needs
 
+r-add-finish : (t : ℕ) → R.Need-add-finish (r-calls t) (r-at t) rule.Post r-Inv r-μ
+r-add-finish t c =
+    let c-pre = c .before .before .before .before .before .before .before .before .before .before .before .pre in
+    let c-get-cursor-index = c .before .before .before .before .before .get-cursor-index in
+    let c-set-cursor-index = c .before .before .before .before .set-cursor-index in
+    let c-loop = c .before .before .before .loop in
+    omega (arith, along-small (begun-ready (c-pre .1 .0) (c-get-cursor-index .ensures) (c-set-cursor-index .ensures)) _ (c-loop .inv))
+
 r-finish-requires : (t : ℕ) → R.Need-finish-requires (r-calls t) (r-at t) rule.Post r-Inv r-μ
 r-finish-requires t c κs =
     let c-pre = c .before .before .before .before .before .before .before .before .before .before .before .pre in
     let c-get-cursor-index = c .before .before .before .before .before .get-cursor-index in
     let c-set-cursor-index = c .before .before .before .before .set-cursor-index in
     let c-loop = c .before .before .before .loop in
-    (along-stored (begun-ready (c-pre .1 .0) (c-get-cursor-index .ensures) (c-set-cursor-index .ensures)) _ (c-loop .inv), (c-pre .1 .0 .sets, (c-pre .1 .0 .rules, (c-pre .1 .0 .depth, (c-pre .1 .0 .last, (omega (arith, c-loop .inv .inside, (begun-ready (c-pre .1 .0) (c-get-cursor-index .ensures) (c-set-cursor-index .ensures)) .limit, c-pre .1 .0 .short), (omega (arith, c-loop .inv .inside, c-loop .inv .under), ((λ z. c-loop .inv .under ∙ (begun-ready (c-pre .1 .0) (c-get-cursor-index .ensures) (c-set-cursor-index .ensures)) .top z), along-small (begun-ready (c-pre .1 .0) (c-get-cursor-index .ensures) (c-set-cursor-index .ensures)) _ (c-loop .inv)))))))))
+    (along-stored (begun-ready (c-pre .1 .0) (c-get-cursor-index .ensures) (c-set-cursor-index .ensures)) _ (c-loop .inv), (c-pre .1 .0 .sets, (c-pre .1 .0 .rules, (c-pre .1 .0 .depth, (c-pre .1 .0 .last, (omega (arith, c-loop .inv .inside, (begun-ready (c-pre .1 .0) (c-get-cursor-index .ensures) (c-set-cursor-index .ensures)) .limit, c-pre .1 .0 .short), (omega (arith, c-loop .inv .inside, c-loop .inv .under), ((λ z. c-loop .inv .under ∙ (begun-ready (c-pre .1 .0) (c-get-cursor-index .ensures) (c-set-cursor-index .ensures)) .top z), omega (arith, along-small (begun-ready (c-pre .1 .0) (c-get-cursor-index .ensures) (c-set-cursor-index .ensures)) _ (c-loop .inv))))))))))
 
 r-same-length-2 : (t : ℕ) → R.Need-same-length-2 (r-calls t) (r-at t) rule.Post r-Inv r-μ
 r-same-length-2 t c =
@@ -810,8 +818,8 @@ r-maybe-expect-char-requires t c κs = search needs
 r-enum-known-step : (t : ℕ) → R.Need-enum-known-step (r-calls t) (r-at t) rule.Post r-Inv r-μ
 r-enum-known-step t c = search needs
 
-r-add-count : (t : ℕ) → R.Need-add-count (r-calls t) (r-at t) rule.Post r-Inv r-μ
-r-add-count t c =
+r-add-passed : (t : ℕ) → R.Need-add-passed (r-calls t) (r-at t) rule.Post r-Inv r-μ
+r-add-passed t c =
     let c-pre = c .before .before .before .before .before .before .before .before .before .before .before .before .before .before .before .before .before .before .pre in
     let c-get-cursor-index = c .before .before .before .before .before .before .before .before .before .before .before .before .get-cursor-index in
     let c-set-cursor-index = c .before .before .before .before .before .before .before .before .before .before .before .set-cursor-index in
@@ -835,7 +843,7 @@ r-loop-again t c =
     let c-part = c .before .before .before .before .before .part in
     let c-maybe-expect-char = c .before .before .before .maybe-expect-char in
     let c-step = c .before .step in
-    along-exact (begun-ready (c-pre .1 .0) (c-get-cursor-index .ensures) (c-set-cursor-index .ensures)) _ (c-loop .inv) (c-if1 .left) (c-if2 .left) _ (c-part-at .ensures) (c-part .given .1) _ (c-maybe-expect-char .ensures) (c-step .given .1)
+    along-by (omega arith) (along-exact (begun-ready (c-pre .1 .0) (c-get-cursor-index .ensures) (c-set-cursor-index .ensures)) _ (c-loop .inv) (c-if1 .left) (c-if2 .left) _ (c-part-at .ensures) (c-part .given .1) _ (c-maybe-expect-char .ensures) (c-step .given .1))
 
 r-enum-told : (t : ℕ) → R.Need-enum-told (r-calls t) (r-at t) rule.Post r-Inv r-μ
 r-enum-told t c = search needs
@@ -915,6 +923,14 @@ r-enum-told-4 t c = search needs
 r-past-requires : (t : ℕ) → R.Need-past-requires (r-calls t) (r-at t) rule.Post r-Inv r-μ
 r-past-requires t c κs = search needs
 
+r-add-match-with-expr : (t : ℕ) → R.Need-add-match-with-expr (r-calls t) (r-at t) rule.Post r-Inv r-μ
+r-add-match-with-expr t c =
+    let c-pre = c .before .before .before .before .before .before .before .before .before .before .before .before .before .before .before .pre in
+    let c-get-cursor-index = c .before .before .before .before .before .before .before .before .before .get-cursor-index in
+    let c-set-cursor-index = c .before .before .before .before .before .before .before .before .set-cursor-index in
+    let c-loop = c .before .before .before .before .before .before .before .loop in
+    omega (arith, along-small (begun-ready (c-pre .1 .0) (c-get-cursor-index .ensures) (c-set-cursor-index .ensures)) _ (c-loop .inv))
+
 r-match-with-expr-requires : (t : ℕ) → R.Need-match-with-expr-requires (r-calls t) (r-at t) rule.Post r-Inv r-μ
 r-match-with-expr-requires t c κs =
     let c-enum-told4 = c .before .before .enum-told4 in
@@ -953,6 +969,14 @@ r-enum-known-part-2 t c = search needs
 
 r-past-requires-2 : (t : ℕ) → R.Need-past-requires-2 (r-calls t) (r-at t) rule.Post r-Inv r-μ
 r-past-requires-2 t c κs = search needs
+
+r-add-match-with-nested-ruledef : (t : ℕ) → R.Need-add-match-with-nested-ruledef (r-calls t) (r-at t) rule.Post r-Inv r-μ
+r-add-match-with-nested-ruledef t c =
+    let c-pre = c .before .before .before .before .before .before .before .before .before .before .before .before .before .before .before .before .pre in
+    let c-get-cursor-index = c .before .before .before .before .before .before .before .before .before .before .get-cursor-index in
+    let c-set-cursor-index = c .before .before .before .before .before .before .before .before .before .set-cursor-index in
+    let c-loop = c .before .before .before .before .before .before .before .before .loop in
+    omega (arith, along-small (begun-ready (c-pre .1 .0) (c-get-cursor-index .ensures) (c-set-cursor-index .ensures)) _ (c-loop .inv))
 
 r-match-with-nested-ruledef-requires : (t : ℕ) → R.Need-match-with-nested-ruledef-requires (r-calls t) (r-at t) rule.Post r-Inv r-μ
 r-match-with-nested-ruledef-requires t c κs =
@@ -996,6 +1020,6 @@ pub +match-with-expr+match-with-nested-ruledef+match-with-rule-spec : {M : Type 
     (λ t. E.spec (e-calls t) (e-at t) expr.Post e-Inv e-μ
     (e-next-useful-index-requires t) (e-find-ends-requires t) (e-loop-holds t) (e-mul-end t) (e-element-copy-out-end t) (e-add-i t) (e-least-requires t) (e-keep-requires t) (e-enum-told t) (e-same-length t) (e-returns t) (e-enum-known-room t) (e-after-requires t) (e-set-cursor-index-requires t) (e-match-with-rule-requires t) (e-enum-known-got t) (e-loop-less t) (e-loop-again t) (e-enum-known-got-2 t) (e-same-length-2 t) (e-returns-2 t) (e-same-length-3 t) (e-returns-3 t))
     (λ t. N.spec (n-calls t) (n-at t) nested.Post n-Inv2 n-μ2 n-Inv n-μ n-Inv3 n-μ3
-    (n-returns t) (n-next-useful-index-requires t) (n-find-limits-requires t) (n-mul-begin t) (n-shared-slice-read-begin t) (n-cast-begin t) (n-add-count t) (n-mul-count t) (n-shared-slice-read-count t) (n-cast-count t) (n-sub-count t) (n-loop-holds t) (n-mul-set-cursor-limit t) (n-element-copy-out-set-cursor-limit t) (n-set-cursor-limit-requires t) (n-add-pass t) (n-loop2-holds t) (n-loop-less t) (n-loop-again t) (n-add-parts-of t) (n-cast-parts-of t) (n-parts-of-requires t) (n-add-t62 t) (n-add-rule t) (n-match-with-rule-requires t) (n-enum-known-got t) (n-loop2-less t) (n-loop2-again t) (n-enum-known-got-2 t) (n-same-length t) (n-returns-2 t) (n-loop3-holds t) (n-add-m t) (n-add-inner-match t) (n-inner-match-requires t) (n-enum-told t) (n-loop3-less t) (n-loop3-again t) (n-enum-known-found t) (n-least-requires t) (n-add-count-2 t) (n-keep-requires t) (n-enum-told-2 t) (n-same-length-2 t) (n-returns-3 t) (n-enum-known-room t) (n-after-requires t) (n-set-cursor-index-requires t) (n-match-with-rule-requires-2 t) (n-enum-known-got-3 t) (n-loop3-less-2 t) (n-loop3-again-2 t) (n-enum-known-got-4 t) (n-same-length-3 t) (n-returns-4 t) (n-same-length-4 t) (n-returns-5 t))
+    (n-returns t) (n-next-useful-index-requires t) (n-find-limits-requires t) (n-mul-begin t) (n-shared-slice-read-begin t) (n-cast-begin t) (n-add-count t) (n-mul-count t) (n-shared-slice-read-count t) (n-cast-count t) (n-sub-count t) (n-loop-holds t) (n-mul-set-cursor-limit t) (n-element-copy-out-set-cursor-limit t) (n-set-cursor-limit-requires t) (n-add-pass t) (n-loop2-holds t) (n-loop-less t) (n-loop-again t) (n-add-parts-of t) (n-cast-parts-of t) (n-parts-of-requires t) (n-add-t63 t) (n-add-rule t) (n-match-with-rule-requires t) (n-enum-known-got t) (n-loop2-less t) (n-loop2-again t) (n-enum-known-got-2 t) (n-same-length t) (n-returns-2 t) (n-loop3-holds t) (n-add-m t) (n-add-inner-match t) (n-inner-match-requires t) (n-enum-told t) (n-loop3-less t) (n-loop3-again t) (n-enum-known-found t) (n-least-requires t) (n-add-sum t) (n-keep-requires t) (n-enum-told-2 t) (n-same-length-2 t) (n-returns-3 t) (n-enum-known-room t) (n-after-requires t) (n-set-cursor-index-requires t) (n-match-with-rule-requires-2 t) (n-enum-known-got-3 t) (n-loop3-less-2 t) (n-loop3-again-2 t) (n-enum-known-got-4 t) (n-same-length-3 t) (n-returns-4 t) (n-same-length-4 t) (n-returns-5 t))
     (λ t. R.spec (r-calls t) (r-at t) rule.Post r-Inv r-μ
-    (r-get-cursor-index-requires t) (r-set-cursor-index-requires t) (r-loop-holds t) (r-same-length t) (r-returns t) (r-sub-left t) (r-finish-requires t) (r-same-length-2 t) (r-returns-2 t) (r-part-at-requires t) (r-add-at t) (r-enum-known-part t) (r-maybe-expect-char-requires t) (r-enum-known-step t) (r-add-count t) (r-loop-less t) (r-loop-again t) (r-enum-told t) (r-same-length-3 t) (r-returns-3 t) (r-enum-told-2 t) (r-maybe-expect-whitespace-requires t) (r-enum-known-step-2 t) (r-loop-less-2 t) (r-loop-again-2 t) (r-enum-told-3 t) (r-same-length-4 t) (r-returns-4 t) (r-enum-told-4 t) (r-past-requires t) (r-match-with-expr-requires t) (r-same-length-5 t) (r-returns-5 t) (r-enum-known-part-2 t) (r-past-requires-2 t) (r-match-with-nested-ruledef-requires t) (r-same-length-6 t) (r-returns-6 t))
+    (r-get-cursor-index-requires t) (r-set-cursor-index-requires t) (r-loop-holds t) (r-same-length t) (r-returns t) (r-sub-left t) (r-add-finish t) (r-finish-requires t) (r-same-length-2 t) (r-returns-2 t) (r-part-at-requires t) (r-add-at t) (r-enum-known-part t) (r-maybe-expect-char-requires t) (r-enum-known-step t) (r-add-passed t) (r-loop-less t) (r-loop-again t) (r-enum-told t) (r-same-length-3 t) (r-returns-3 t) (r-enum-told-2 t) (r-maybe-expect-whitespace-requires t) (r-enum-known-step-2 t) (r-loop-less-2 t) (r-loop-again-2 t) (r-enum-told-3 t) (r-same-length-4 t) (r-returns-4 t) (r-enum-told-4 t) (r-past-requires t) (r-add-match-with-expr t) (r-match-with-expr-requires t) (r-same-length-5 t) (r-returns-5 t) (r-enum-known-part-2 t) (r-past-requires-2 t) (r-add-match-with-nested-ruledef t) (r-match-with-nested-ruledef-requires t) (r-same-length-6 t) (r-returns-6 t))
