@@ -1,5 +1,6 @@
 //! The inputs: rule tables as a house would write them, by size and by kind, with a short and a long line for each; one table
-//! made for the cut, on lines full of brackets; programs of many lines; and lines of expressions of any length.
+//! made for the cut, on lines full of brackets; composite rules, whose matches are deep and tie; programs of many lines; and
+//! lines of expressions of any length.
 
 use crate::notation::rule;
 
@@ -67,6 +68,15 @@ fn sheet(line: &[u8]) -> Vec<u8> {
         }
     }
     sheet
+}
+
+fn case(name: String, rulesets: &[Vec<String>], line: String) -> Case {
+    Case {
+        name,
+        table: pack(rulesets),
+        sheet: sheet(line.as_bytes()),
+        line: line.into_bytes(),
+    }
 }
 
 /// A mnemonic of three letters for a number; the first 17,576 differ.
@@ -147,35 +157,62 @@ fn bracketed() -> Vec<String> {
 /// Nearly half of it is brackets, of both kinds, up to three deep.
 const BRACKETS: &str = "((a+b)*{c-(d/e)})";
 
+/// Rules that nest as deep as `alike` is long: each ruleset's rules hold one of the next, and the last ruleset has registers.
+/// A ruleset has as many rules as `alike` says that differ in their whitespace parts alone, and one space is enough for all of
+/// them: so the matches that tie are as many as the product.
+fn composite(before: &str, after: &str, alike: &[usize]) -> (Vec<Vec<String>>, String) {
+    let rules = |(set, count): (usize, &usize)| {
+        let of = |spaces| format!("{before}{}{{{}}}{after}", " ".repeat(spaces), set + 1);
+        (0..*count).map(of).collect::<Vec<_>>()
+    };
+    let mut rulesets: Vec<_> = alike.iter().enumerate().map(rules).collect();
+    rulesets.push(vec!["p".to_string(), "q".to_string()]);
+    let deep = alike.len();
+    let line = format!("{}q{}", format!("{before} ").repeat(deep), after.repeat(deep));
+    (rulesets, line)
+}
+
+/// Composite rules 3, 5 and 8 deep. With nothing after what they hold, few records are taken for many matches. In brackets
+/// each ruleset is read under the cut too, so there are many records for few matches: 8 deep, twice the ties pass 4,096.
+const COMPOSITES: [(&str, &str, &str, &[usize]); 9] = [
+    ("", "a:", "", &[2, 2, 2]),
+    ("", "a:", "", &[5, 5, 4]),
+    ("", "a:", "", &[2, 2, 2, 2, 1]),
+    ("", "a:", "", &[3, 2, 2, 2, 4]),
+    ("", "a:", "", &[2, 2, 2, 1, 1, 1, 1, 1]),
+    ("", "a:", "", &[2, 2, 2, 2, 2, 2, 1, 1]),
+    (" in brackets", "(", ")", &[2, 2, 2]),
+    (" in brackets", "(", ")", &[2, 2, 2, 2, 1]),
+    (" in brackets", "(", ")", &[2, 2, 1, 1, 1, 1, 1, 1]),
+];
+
 const KINDS: [(&str, fn(usize) -> Kind); 3] = [("plain", plain), ("overlapping", overlapping), ("nested", nested)];
 const SIZES: [usize; 3] = [8, 64, 512];
 
 /// Every kind of table, of 8, 64 and 512 rules, with both lines; then 64 rules on lines full of brackets: six of the eight
-/// characters stand within brackets alone or nowhere, so that the search for them goes through the whole line.
+/// characters stand within brackets alone or nowhere, so that the search for them goes through the whole line; then composite
+/// rules.
 pub fn all() -> Vec<Case> {
     let mut cases = Vec::new();
     for (kind, make) in KINDS {
         for rules in SIZES {
             let made = make(rules);
             for (length, line) in ["short", "long"].into_iter().zip(made.lines) {
-                cases.push(Case {
-                    name: format!("{kind} {rules} {length}"),
-                    table: pack(&made.rulesets),
-                    sheet: sheet(line.as_bytes()),
-                    line: line.into_bytes(),
-                });
+                cases.push(case(format!("{kind} {rules} {length}"), &made.rulesets, line));
             }
         }
     }
     let rules = bracketed();
     for copies in [5, 6] {
         let line = format!("{} {},(4)", mnemonic(2), vec![BRACKETS; copies].join("+"));
-        cases.push(Case {
-            name: format!("bracketed {}, {} bytes", rules.len(), line.len()),
-            table: pack(&[rules.clone()]),
-            sheet: sheet(line.as_bytes()),
-            line: line.into_bytes(),
-        });
+        let name = format!("bracketed {}, {} bytes", rules.len(), line.len());
+        cases.push(case(name, &[rules.clone()], line));
+    }
+    for (shape, before, after, alike) in COMPOSITES {
+        let (rulesets, line) = composite(before, after, alike);
+        let tied: usize = alike.iter().product();
+        let name = format!("composite {} deep{shape}, {tied} tied", alike.len());
+        cases.push(case(name, &rulesets, line));
     }
     cases
 }
