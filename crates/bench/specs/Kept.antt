@@ -1,6 +1,6 @@
 -- Order 7's counts on document 01's bench case 1, and on a rule with an exact part between two nested ones: the records that a
 -- call takes, in order, and for each what the definitions say that its count is.
-use mathlib.Core.List.{List, [], _∷_, map}
+use mathlib.Core.List.{List, [], _∷_}
 use Prim.Native.Nat.{ℕ, suc}
 use Rattle.readings.specs.Scene.{Scene, sceneOf}
 use Rattle.readings.specs.Answer.{exactCount}
@@ -8,7 +8,6 @@ use Rattle.pool.specs.declared.ArgumentKind.the-variants.{Expr, Nested}
 use Rattle.pool.specs.declared.Argument.{Argument}
 use Rattle.pool.specs.declared.Record.{Record}
 use Rattle.pool.specs.declared.Record.the-variants.{Kept, Completed}
-use Rattle.pool.specs.Log.{countIn}
 use Rattle.pool.specs.Meaning.{chainAt, treeAt, meanings}
 use Rattle.pool.specs.Counted.{soFar}
 use Rattle.bench.specs.Cases.{T}

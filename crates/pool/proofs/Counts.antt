@@ -111,3 +111,17 @@ module _ (s : Scene) where
         go : (y : Record) → x ≡ y → countIn x ≡ exactCount s (treeIn (getD (entries store used) m (argued none)))
         go (Kept a p n) e = absurd (match (ap depthIn e))
         go (Completed d r k a c n) e = ap countIn e ∙ subst (CountOf s (logOf store used) m) e own .0 ∙ ap (λ (z : Entry). exactCount s (treeIn z)) (sym (read ∙ ap (entryOf (entries store used)) e))
+
+  -- ---- no choice is left
+
+  -- of a rule's match so far, the arguments kept determine the count of the last one's record
+  pub argument-tight : {log log′ : List Record} {r k i j : ℕ} {a b : Argument} {p q n m : ℕ} → CountedTo s r k log (suc i) → CountedTo s r k log′ (suc j)
+      → getD log i nothing ≡ Kept a p n → getD log′ j nothing ≡ Kept b q m → chainAt (meanings log) (suc i) ≡ chainAt (meanings log′) (suc j) → n ≡ m
+  argument-tight {r = r} {k = k} (after _ e _ c _) (after _ f _ d _) x y same =
+      ap countIn (sym x ∙ e) ∙ c ∙ ap (soFar s r k) same ∙ sym (ap countIn (sym y ∙ f) ∙ d)
+
+  -- of a match, its rule and arguments that of its own
+  pub match-tight : {log log′ : List Record} → Counted s log → Counted s log′ → {i j : ℕ} → i < length log → j < length log′ → {d d′ r k a b e e′ n m : ℕ}
+      → getD log i nothing ≡ Completed d r k a e n → getD log′ j nothing ≡ Completed d′ r k b e′ m → chainAt (meanings log) a ≡ chainAt (meanings log′) b → n ≡ m
+  match-tight {log} {log′} x y {i} {j} h g {r = r} {k = k} p q same =
+      subst (CountOf s log i) p (x .each i h) .0 ∙ ap (λ (c : Chain). exactCount s (node r k (unwind c end))) same ∙ sym (subst (CountOf s log′ j) q (y .each j g) .0)
