@@ -1,5 +1,5 @@
--- Order 7's counts on document 01's bench case 1, and on a rule with an exact part between two nested ones: the records that a
--- call takes, in order, and for each what the definitions say that its count is.
+-- Order 7's counts on document 01's bench case 1, and on a rule with exact parts before, between and after two nested ones: the
+-- records that a call takes, in order, and for each what the definitions say that its count is.
 use mathlib.Core.List.{List, [], _∷_}
 use Prim.Native.Nat.{ℕ, suc}
 use Rattle.readings.specs.Scene.{Scene, sceneOf}
@@ -25,17 +25,19 @@ ofT =
     ∷ Completed 0 0 1 4 5 4
     ∷ []
 
--- `abxcxyz` by the rule `ab{sub1}c{sub2}`, whose nested matches count 1 and 3
+-- `abxcxyzd` by the rule `ab{sub1}c{sub2}d`, whose nested matches count 1 and 3: each is found under the limit and under the cut
 abbrev pub twoNested : List ℕ
-twoNested = 3 ∷ 3 ∷ 9 ∷ 0 ∷ 1 ∷ 1 ∷ 0 ∷ 0 ∷ 5 ∷ 1 ∷ 5 ∷ 1 ∷ 2 ∷ 6 ∷ 3 ∷ 97 ∷ 98 ∷ 513 ∷ 99 ∷ 514 ∷ 120 ∷ 120 ∷ 121 ∷ 122 ∷ []
+twoNested = 3 ∷ 3 ∷ 10 ∷ 0 ∷ 1 ∷ 1 ∷ 0 ∷ 0 ∷ 6 ∷ 1 ∷ 6 ∷ 1 ∷ 2 ∷ 7 ∷ 3 ∷ 97 ∷ 98 ∷ 513 ∷ 99 ∷ 514 ∷ 100 ∷ 120 ∷ 120 ∷ 121 ∷ 122 ∷ []
 
 abbrev pub ofTwo : List Record
 ofTwo =
     Completed 1 1 0 0 3 1
+    ∷ Completed 1 1 0 0 3 1
     ∷ Kept (nestedAt 2 3 0) 0 3
     ∷ Completed 1 2 0 0 7 3
-    ∷ Kept (nestedAt 4 7 2) 2 7
-    ∷ Completed 0 0 0 4 7 7
+    ∷ Completed 1 2 0 0 7 3
+    ∷ Kept (nestedAt 4 7 3) 3 7
+    ∷ Completed 0 0 0 6 8 8
     ∷ []
 
 module _ (t : List ℕ) (log : List Record) where
@@ -49,8 +51,16 @@ module _ (t : List ℕ) (log : List Record) where
   abbrev pub matchCounts : ℕ → ℕ
   matchCounts i = exactCount s (treeAt (meanings log) i)
 
+-- of each record of the two logs
 unfoldable pub kept : List (List ℕ)
 kept =
     (argumentCounts T ofT 0 0 0 ∷ matchCounts T ofT 1 ∷ matchCounts T ofT 2 ∷ argumentCounts T ofT 0 1 3 ∷ matchCounts T ofT 4 ∷ [])
-    ∷ (matchCounts twoNested ofTwo 0 ∷ argumentCounts twoNested ofTwo 0 0 1 ∷ matchCounts twoNested ofTwo 2 ∷ argumentCounts twoNested ofTwo 0 0 3 ∷ matchCounts twoNested ofTwo 4 ∷ [])
+    ∷ (matchCounts twoNested ofTwo 0
+    ∷ matchCounts twoNested ofTwo 1
+    ∷ argumentCounts twoNested ofTwo 0 0 2
+    ∷ matchCounts twoNested ofTwo 3
+    ∷ matchCounts twoNested ofTwo 4
+    ∷ argumentCounts twoNested ofTwo 0 0 5
+    ∷ matchCounts twoNested ofTwo 6
+    ∷ [])
     ∷ []

@@ -2,12 +2,11 @@
 use mathlib.Core.Path.{_≡_, refl, sym, ap, subst, _∙_}
 use mathlib.Core.Logic.{⊎-elim}
 use mathlib.Core.List.{List, [], _∷_, _++_}
-use Prim.Native.Nat.{ℕ, suc, _+_, _≤_, _<_}
+use Prim.Native.Nat.{ℕ, suc, _≤_, _<_}
 use native.Mathlib.Omega.{arith}
 use native.Mathlib.Nat.{eq-or-lt-of-le, le-of-suc-le-suc}
 use lib.ListN.{length, getD, length-append, List·getD-append}
 use lib.Seq.{getD-at}
-use Rattle.plain.specs.Lists.{count}
 use Rattle.readings.specs.Tree.{node, end}
 use Rattle.readings.specs.Scene.{Scene}
 use Rattle.readings.specs.Answer.{exactCount}
@@ -15,24 +14,10 @@ use Rattle.pool.specs.declared.Argument.{Argument}
 use Rattle.pool.specs.declared.Record.{Record}
 use Rattle.pool.specs.declared.Record.the-variants.{Kept, Completed}
 use Rattle.pool.specs.Log.{decode, logOf, countIn, depthIn, Digits, nothing}
-use Rattle.pool.specs.Meaning.{Chain, none, Entry, argued, unwind, chainIn, chainAt, treeAt, treeIn, linked, entryOf, meaning, meanings, Stored, entries}
-use Rattle.pool.specs.Counted.{isParameter, argumentsIn, soFar, CountedTo, first, after, CountOf, Counted}
+use Rattle.pool.specs.Meaning.{Chain, none, Entry, argued, unwind, chainAt, treeAt, treeIn, linked, entryOf, meanings, Stored, entries}
+use Rattle.pool.specs.Counted.{soFar, TakesLast, CountedTo, first, after, CountOf, Counted}
 use Rattle.pool.proofs.Words.{log-length, log-at, digits}
-use Rattle.pool.proofs.Meanings.{meanings-more, meaning-length, chain-stays, entry-read}
-
--- ---- what a number stands for
-
-pub chain-later : (log new : List Record) (n : ℕ) → n ≤ length log → chainAt (meanings (log ++ new)) n ≡ chainAt (meanings log) n
-chain-later log new n h =
-    ap (λ (es : List Entry). chainAt es n) (meanings-more log new) ∙ chain-stays (meanings log) (meaning (meanings log) new) n (omega (arith, meaning-length [] log))
-
--- the arguments up to the one kept last
-pub chain-kept : (log : List Record) (a : Argument) (p n : ℕ)
-    → chainAt (meanings (log ++ (Kept a p n ∷ []))) (suc (length log)) ≡ linked (meanings log) (chainAt (meanings log) p) (a .start) (a .end) (a .kind)
-unfolding chainAt meaning
-chain-kept log a p n =
-    ap (λ (es : List Entry). chainAt es (suc (length log))) (meanings-more log (Kept a p n ∷ []))
-    ∙ ap chainIn (getD-at (meanings log) (entryOf (meanings log) (Kept a p n)) [] (argued none) (length log) (meaning-length [] log))
+use Rattle.pool.proofs.Meanings.{chain-later, chain-kept, entry-read}
 
 module _ (s : Scene) where
   -- ---- the records that were there
@@ -48,13 +33,23 @@ module _ (s : Scene) where
       counted-stays {r} {k} (after {i = i} h e t c rest) =
           let same = sym (chain-later log new (suc i) (omega arith)) in
           after {i = i} (omega (arith, length-append log new)) (List·getD-append log new nothing i h ∙ e)
-          (subst (λ (d : Chain). argumentsIn d ≤ count isParameter (s .parts r k)) same t)
+          (subst (TakesLast (s .parts r k)) same t)
           (c ∙ ap (soFar s r k) same) (counted-stays rest)
 
       count-stays : (i : ℕ) (x : Record) → CountOf s log i x → CountOf s (log ++ new) i x
       count-stays i (Kept a p n) (r, k, c) = (r, k, counted-stays c)
       count-stays i (Completed d r k a e n) (q, c) =
           (q ∙ ap (λ (x : Chain). exactCount s (node r k (unwind x end))) (sym (chain-later log new a (counted-within c))), counted-stays c)
+
+  -- an argument of a rule's match, after those before it
+  pub argument-own : (log : List Record) {r k : ℕ} (a : Argument) {p n : ℕ} → CountedTo s r k log p
+      → TakesLast (s .parts r k) (linked (meanings log) (chainAt (meanings log) p) (a .start) (a .end) (a .kind))
+      → n ≡ soFar s r k (linked (meanings log) (chainAt (meanings log) p) (a .start) (a .end) (a .kind))
+      → CountedTo s r k (log ++ (Kept a p n ∷ [])) (suc (length log))
+  argument-own log {r} {k} a {p} {n} before takes is =
+      let same = sym (chain-kept log a p n) in
+      after {i = length log} (omega (arith, length-append log (Kept a p n ∷ []))) (getD-at log (Kept a p n) [] nothing (length log) refl)
+      (subst (TakesLast (s .parts r k)) same takes) (is ∙ ap (soFar s r k) same) (counted-stays log (Kept a p n ∷ []) before)
 
   -- ---- one record more
 
@@ -73,18 +68,8 @@ module _ (s : Scene) where
             (λ h. subst (CountOf s (log ++ (x ∷ [])) i) (sym (List·getD-append log (x ∷ []) nothing i h)) (count-stays log (x ∷ []) i (getD log i nothing) (counted .each i h)))
             (eq-or-lt-of-le (le-of-suc-le-suc (omega (arith, length-append log (x ∷ [])))))
 
-    module _ {r k : ℕ} (a : Argument) {p n : ℕ} (before : CountedTo s r k log p)
-        (takes : argumentsIn (linked (meanings log) (chainAt (meanings log) p) (a .start) (a .end) (a .kind)) ≤ count isParameter (s .parts r k))
-        (is : n ≡ soFar s r k (linked (meanings log) (chainAt (meanings log) p) (a .start) (a .end) (a .kind))) where
-      -- an argument of a rule's match, after those before it
-      pub argument-own : CountedTo s r k (log ++ (Kept a p n ∷ [])) (suc (length log))
-      argument-own =
-          after {i = length log} (omega (arith, length-append log (Kept a p n ∷ []))) (getD-at log (Kept a p n) [] nothing (length log) refl)
-          (subst (λ (d : Chain). argumentsIn d ≤ count isParameter (s .parts r k)) (sym (chain-kept log a p n)) takes)
-          (is ∙ ap (soFar s r k) (sym (chain-kept log a p n))) (counted-stays log (Kept a p n ∷ []) before)
-
-      pub argument-counted : Counted s (log ++ (Kept a p n ∷ []))
-      argument-counted = more (Kept a p n) (r, k, argument-own)
+    pub argument-counted : {r k : ℕ} (a : Argument) (p n : ℕ) → CountedTo s r k (log ++ (Kept a p n ∷ [])) (suc (length log)) → Counted s (log ++ (Kept a p n ∷ []))
+    argument-counted {r} {k} a p n own = more (Kept a p n) (r, k, own)
 
     pub match-counted : (d e : ℕ) {r k a n : ℕ} → CountedTo s r k log a → n ≡ exactCount s (node r k (unwind (chainAt (meanings log) a) end))
         → Counted s (log ++ (Completed d r k a e n ∷ []))

@@ -18,7 +18,8 @@ use Rattle.pool.specs.declared.Argument.{Argument}
 use Rattle.pool.specs.declared.Record.{Record}
 use Rattle.pool.specs.declared.Record.the-variants.{Kept, Completed}
 use Rattle.pool.specs.declared.Last.the-variants.{First, After}
-use Rattle.pool.specs.Log.{decode, logOf, nothing, ArgumentDigits, MatchFits, Digits}
+use Rattle.pool.specs.declared.Pool.{Pool}
+use Rattle.pool.specs.Log.{decode, logOf, nothing, Added, ArgumentDigits, MatchFits, Digits}
 use Rattle.pool.specs.Meaning.{Chain, Entry, argued, completed, chainAt, treeAt, linked, entryOf, meaning, meanings, gatheredOf, gathered, InnerEarlier, Links, Earlier, Stored, entries, headOf, HeadAt, lastOf, lastIn, LastAt, chainIn, treeIn}
 use Rattle.pool.proofs.Words.{log-length, log-at}
 
@@ -73,6 +74,31 @@ entry-stays es more (Kept a p n) (h, k) =
     ap (λ (c : Chain). argued (linked (es ++ more) c (a .start) (a .end) (a .kind))) (chain-stays es more p h)
     ∙ ap argued (linked-stays es more (chainAt es p) (a .start) (a .end) (a .kind) k)
 entry-stays es more (Completed d r k a e n) h = rw (chain-stays es more a h)
+
+pub chain-later : (log new : List Record) (n : ℕ) → n ≤ length log → chainAt (meanings (log ++ new)) n ≡ chainAt (meanings log) n
+chain-later log new n h =
+    ap (λ (es : List Entry). chainAt es n) (meanings-more log new) ∙ chain-stays (meanings log) (meaning (meanings log) new) n (omega (arith, meaning-length [] log))
+
+-- the arguments up to the one kept last
+pub chain-kept : (log : List Record) (a : Argument) (p n : ℕ)
+    → chainAt (meanings (log ++ (Kept a p n ∷ []))) (suc (length log)) ≡ linked (meanings log) (chainAt (meanings log) p) (a .start) (a .end) (a .kind)
+unfolding chainAt meaning
+chain-kept log a p n =
+    ap (λ (es : List Entry). chainAt es (suc (length log))) (meanings-more log (Kept a p n ∷ []))
+    ∙ ap chainIn (getD-at (meanings log) (entryOf (meanings log) (Kept a p n)) [] (argued Chain.none) (length log) (meaning-length [] log))
+
+-- an argument's record is taken: the log, its number from 1, and the chain up to it
+module _ {u : ℕ} {store store′ : List ℕ} {a : Argument} {p n : ℕ} {more : Pool} (stored : Stored store u) (added : Added u store store′ (Kept a p n) more) where
+  pub kept-grown : logOf store′ (more .used) ≡ logOf store u ++ (Kept a p n ∷ [])
+  kept-grown = ap (logOf store′) (added .counted) ∙ added .grown
+
+  pub kept-number : suc (length (logOf store u)) ≡ more .used
+  kept-number = omega (arith, added .counted, log-length store u (omega (arith, stored .sized, stored .room)))
+
+  pub kept-chain : chainAt (entries store′ (more .used)) (more .used) ≡ linked (entries store u) (chainAt (entries store u) p) (a .start) (a .end) (a .kind)
+  kept-chain =
+      ap (λ (l : List Record). chainAt (meanings l) (more .used)) kept-grown ∙ ap (chainAt (meanings (logOf store u ++ (Kept a p n ∷ [])))) (sym kept-number)
+      ∙ chain-kept (logOf store u) a p n
 
 -- ---- links to earlier records
 

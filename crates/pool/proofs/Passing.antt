@@ -1,11 +1,12 @@
 -- A match of a rule so far, part by part: an exact part adds one to its count, an argument what its nested match counts, and at
 -- the pattern's end the count is the match's own.
 use mathlib.Core.Path.{_≡_, refl, sym, ap, _∙_}
-use mathlib.Core.Bool.{true, false}
+use mathlib.Core.Bool.{true}
 use mathlib.Core.List.{List, [], _∷_, _++_, append-assoc, append-nil}
-use Prim.Native.Nat.{ℕ, suc, _+_, _≤_}
+use Prim.Native.Nat.{ℕ, suc, _+_}
 use native.Mathlib.Omega.{arith}
-use Rattle.plain.specs.Lists.{count}
+use lib.ListN.{getD}
+use Rattle.plain.specs.Lists.{keepIf, count}
 use Rattle.plain.proofs.Lists.{count-append}
 use Rattle.defs.specs.declared.ruledef.Part.{Part}
 use Rattle.defs.specs.declared.ruledef.Part.the-variants.{Exact, Whitespace, Expression, Nested}
@@ -13,7 +14,7 @@ use Rattle.readings.specs.Tree.{Tree, node, Args, end, expr, nest}
 use Rattle.readings.specs.Scene.{Scene}
 use Rattle.readings.specs.Answer.{isExact, exactParts, exactCount, nestedCount}
 use Rattle.pool.specs.Meaning.{Chain, none, then-expr, then-nest, unwind}
-use Rattle.pool.specs.Counted.{isParameter, passedWith, argumentsIn, soFar, SoFar}
+use Rattle.pool.specs.Counted.{isParameter, passedWith, argumentsIn, soFar, Underway}
 
 passed-none : (ps : List Part) → passedWith ps 0 ≡ []
 unfolding passedWith
@@ -31,6 +32,15 @@ passed-next (Exact x ∷ b) p rest e = ap (λ (l : List Part). Exact x ∷ l) (p
 passed-next (Whitespace ∷ b) p rest e = ap (λ (l : List Part). Whitespace ∷ l) (passed-next b p rest e)
 passed-next (Expression ∷ b) p rest e = ap (λ (l : List Part). Expression ∷ l) (passed-next b p rest e)
 passed-next (Nested r ∷ b) p rest e = ap (λ (l : List Part). Nested r ∷ l) (passed-next b p rest e)
+
+-- the parameter that comes next, by how many there are before it
+parameter-next : (b : List Part) (p : Part) (rest : List Part) → isParameter p ≡ true → getD (keepIf isParameter (b ++ (p ∷ rest))) (count isParameter b) Whitespace ≡ p
+unfolding keepIf count
+parameter-next [] p rest e = rw e
+parameter-next (Exact x ∷ b) p rest e = parameter-next b p rest e
+parameter-next (Whitespace ∷ b) p rest e = parameter-next b p rest e
+parameter-next (Expression ∷ b) p rest e = parameter-next b p rest e
+parameter-next (Nested r ∷ b) p rest e = parameter-next b p rest e
 
 -- a parameter is no exact part
 not-exact : (p : Part) → isParameter p ≡ true → exactParts (p ∷ []) ≡ 0
@@ -62,51 +72,37 @@ module _ (s : Scene) where
   nest-adds c x y t = omega (arith, unwound c (nest x y t end))
 
   module _ {r k : ℕ} where
-    pub so-start : {rest : List Part} {n : ℕ} → s .parts r k ≡ rest → n ≡ 0 → SoFar s r k rest none n
+    pub so-start : {rest : List Part} {n : ℕ} → s .parts r k ≡ rest → n ≡ 0 → Underway s r k rest none n
     unfolding exactParts count
     so-start e z = record { passed = []; pattern = e; given = refl; counts = omega arith }
 
     module _ {rest : List Part} {c : Chain} {n : ℕ} where
-      pub so-exact : {x : ℕ} → SoFar s r k (Exact x ∷ rest) c n → SoFar s r k rest c (n + 1)
-      unfolding exactParts count
-      so-exact {x} h = record {
-        passed = h .passed ++ (Exact x ∷ []);
-        pattern = h .pattern ∙ sym (append-assoc (h .passed) (Exact x ∷ []) rest);
-        given = omega (arith, count-append isParameter (h .passed) (Exact x ∷ []), h .given);
-        counts = omega (arith, count-append isExact (h .passed) (Exact x ∷ []), h .counts);
-      }
-
-      pub so-whitespace : SoFar s r k (Whitespace ∷ rest) c n → SoFar s r k rest c n
-      unfolding exactParts count
-      so-whitespace h = record {
-        passed = h .passed ++ (Whitespace ∷ []);
-        pattern = h .pattern ∙ sym (append-assoc (h .passed) (Whitespace ∷ []) rest);
-        given = omega (arith, count-append isParameter (h .passed) (Whitespace ∷ []), h .given);
-        counts = omega (arith, count-append isExact (h .passed) (Whitespace ∷ []), h .counts);
-      }
-
-      -- an argument is kept at the parameter that comes next
-      module _ {p : Part} (takes : isParameter p ≡ true) (h : SoFar s r k (p ∷ rest) c n) (d : Chain) (longer : argumentsIn d ≡ suc (argumentsIn c))
-          (m : ℕ) (adds : nestedCount s (unwind d end) ≡ nestedCount s (unwind c end) + m) {n′ : ℕ} (sum : n′ ≡ n + m) where
-        pub so-kept : SoFar s r k rest d n′
-        so-kept = record {
+      -- a part is passed, and with it so many arguments are kept and so much is counted
+      module _ (p : Part) (h : Underway s r k (p ∷ rest) c n) (d : Chain) (m : ℕ) where
+        passing : argumentsIn d ≡ argumentsIn c + count isParameter (p ∷ []) → nestedCount s (unwind d end) ≡ nestedCount s (unwind c end) + m
+            → {n′ : ℕ} → n′ ≡ n + exactParts (p ∷ []) + m → Underway s r k rest d n′
+        passing longer adds sum = record {
           passed = h .passed ++ (p ∷ []);
           pattern = h .pattern ∙ sym (append-assoc (h .passed) (p ∷ []) rest);
-          given = omega (arith, count-append isParameter (h .passed) (p ∷ []), one-parameter p takes, h .given, longer);
-          counts = omega (arith, exact-append (h .passed) (p ∷ []), not-exact p takes, h .counts, adds, sum);
+          given = omega (arith, count-append isParameter (h .passed) (p ∷ []), h .given, longer);
+          counts = omega (arith, exact-append (h .passed) (p ∷ []), h .counts, adds, sum);
         }
 
-        -- the rule has a parameter for it
-        pub so-takes : argumentsIn d ≤ count isParameter (s .parts r k)
-        so-takes =
-            omega (
-              arith,
-              ap (count isParameter) (so-kept .pattern),
-              count-append isParameter (so-kept .passed) rest,
-              so-kept .given,
-            )
+      pub so-exact : {x : ℕ} → Underway s r k (Exact x ∷ rest) c n → Underway s r k rest c (n + 1)
+      unfolding exactParts count
+      so-exact {x} h = passing (Exact x) h c 0 (omega arith) (omega arith) (omega arith)
 
-        -- and its record has the count so far
+      pub so-whitespace : Underway s r k (Whitespace ∷ rest) c n → Underway s r k rest c n
+      unfolding exactParts count
+      so-whitespace h = passing Whitespace h c 0 (omega arith) (omega arith) (omega arith)
+
+      -- an argument is kept at the parameter that comes next
+      module _ {p : Part} (takes : isParameter p ≡ true) (h : Underway s r k (p ∷ rest) c n) (d : Chain) (longer : argumentsIn d ≡ suc (argumentsIn c))
+          (m : ℕ) (adds : nestedCount s (unwind d end) ≡ nestedCount s (unwind c end) + m) {n′ : ℕ} (sum : n′ ≡ n + m) where
+        pub so-kept : Underway s r k rest d n′
+        so-kept = passing p h d m (omega (arith, longer, one-parameter p takes)) adds (omega (arith, sum, not-exact p takes))
+
+        -- its record has the count so far
         pub so-recorded : n′ ≡ soFar s r k d
         unfolding soFar
         so-recorded =
@@ -114,5 +110,11 @@ module _ (s : Scene) where
             ∙ ap (λ (ps : List Part). passedWith ps (suc (count isParameter (h .passed)))) (h .pattern) ∙ passed-next (h .passed) p rest takes in
             omega (arith, ap exactParts passed, exact-append (h .passed) (p ∷ []), not-exact p takes, h .counts, adds, sum)
 
-    pub so-end : {c : Chain} {n : ℕ} → SoFar s r k [] c n → n ≡ exactCount s (node r k (unwind c end))
+      -- the parameter that comes next is the one after those of the arguments kept
+      pub so-next : {p : Part} → isParameter p ≡ true → Underway s r k (p ∷ rest) c n → getD (keepIf isParameter (s .parts r k)) (argumentsIn c) Whitespace ≡ p
+      so-next {p} takes h =
+          ap (λ (i : ℕ). getD (keepIf isParameter (s .parts r k)) i Whitespace) (sym (h .given))
+          ∙ ap (λ (ps : List Part). getD (keepIf isParameter ps) (count isParameter (h .passed)) Whitespace) (h .pattern) ∙ parameter-next (h .passed) p rest takes
+
+    pub so-end : {c : Chain} {n : ℕ} → Underway s r k [] c n → n ≡ exactCount s (node r k (unwind c end))
     so-end {c} h = h .counts ∙ ap (λ (ps : List Part). exactParts ps + nestedCount s (unwind c end)) (sym (h .pattern ∙ append-nil (h .passed)))

@@ -15,6 +15,7 @@ use Rattle.pool.proofs.Pool.keep.Reads as keep
 use Rattle.pool.proofs.Pool.complete.Reads as complete
 use Rattle.pool.proofs.record_at.Reads as record-at
 use Rattle.pool.proofs.depth_at.Reads as depth-at
+use Rattle.pool.proofs.count_at.Reads as count-at
 use Rattle.pool.proofs.match_at.Reads as match-at
 use Rattle.pool.proofs.last_argument.Reads as last-argument
 
@@ -33,6 +34,9 @@ record-at-tight κs a r s x y p q = one-answer (p .0) (q .0)
 
 pub depth-at-tight : (κs a : _) (r s : ℕ) (x y : _) → depth-at.Post κs a r x → depth-at.Post κs a s y → r ≡ s
 depth-at-tight κs a r s x y = one-answer
+
+pub count-at-tight : (κs a : _) (r s : ℕ) (x y : _) → count-at.Post κs a r x → count-at.Post κs a s y → r ≡ s
+count-at-tight κs a r s x y = one-answer
 
 pub match-at-tight : (κs a : _) (r s : Head) (x y : _) → match-at.Post κs a r x → match-at.Post κs a s y → r ≡ s
 match-at-tight κs a r s x y p q = one-answer (p .is) (q .is)

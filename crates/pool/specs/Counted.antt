@@ -4,10 +4,10 @@
 use mathlib.Core.Path.{_≡_}
 use mathlib.Core.Bool.{Bool, true, false}
 use mathlib.Core.List.{List, [], _∷_, _++_}
-use Prim.Native.Nat.{ℕ, zero, suc, _+_, _≤_, _<_}
+use Prim.Native.Nat.{ℕ, zero, suc, _+_, _<_}
 use lib.ListN.{length, getD}
 use Rattle.plain.specs.Choice.{select}
-use Rattle.plain.specs.Lists.{count}
+use Rattle.plain.specs.Lists.{keepIf, count}
 use Rattle.defs.specs.declared.ruledef.Part.{Part}
 use Rattle.defs.specs.declared.ruledef.Part.the-variants.{Exact, Whitespace, Expression, Nested}
 use Rattle.readings.specs.Tree.{node, end}
@@ -47,15 +47,21 @@ soFar s r k c = exactParts (passedWith (s .parts r k) (argumentsIn c)) + nestedC
 
 -- ---- the records
 
--- the arguments up to a last one, by its number from 1, are of a match of this rule: it has a parameter for each, and each
+-- the last argument of a chain is one for its parameter: an expression, or nested with a match of the parameter's ruleset
+abbrev pub TakesLast : List Part → Chain → Type 0
+TakesLast ps none = Unit {0}
+TakesLast ps (then-expr c x y) = getD (keepIf isParameter ps) (argumentsIn c) Whitespace ≡ Expression
+TakesLast ps (then-nest c x y (node r k a)) = getD (keepIf isParameter ps) (argumentsIn c) Whitespace ≡ Nested r
+
+-- the arguments up to a last one, by its number from 1, are of a match of this rule: each is one for its parameter, and its
 -- record has the count of that match so far
 pub data CountedTo (s : Scene) (r k : ℕ) (log : List Record) : ℕ → Type 0 where
   first : CountedTo s r k log 0
   after : {i : ℕ} {a : Argument} {p n : ℕ} → i < length log → getD log i nothing ≡ Kept a p n
-      → argumentsIn (chainAt (meanings log) (suc i)) ≤ count isParameter (s .parts r k)
+      → TakesLast (s .parts r k) (chainAt (meanings log) (suc i))
       → n ≡ soFar s r k (chainAt (meanings log) (suc i)) → CountedTo s r k log p → CountedTo s r k log (suc i)
 
--- an argument's record alone doesn't say its rule; a match's says whose its arguments are
+-- an argument's record doesn't say its rule: there is one that it is of; a match's says its rule, and so whose its arguments are
 abbrev pub CountOf : Scene → List Record → ℕ → Record → Type 0
 CountOf s log i (Kept a p n) = (r : ℕ) × (k : ℕ) × CountedTo s r k log (suc i)
 CountOf s log i (Completed d r k a e n) = (n ≡ exactCount s (node r k (unwind (chainAt (meanings log) a) end))) × CountedTo s r k log a
@@ -66,9 +72,9 @@ pub record Counted (s : Scene) (log : List Record) : Type 0 where
 
 -- ---- a place in a pattern
 
--- a match of a rule stands where these parts are still to come: the parts passed have a parameter for each argument kept, and
--- the count is of them and of the nested matches kept
-pub record SoFar (s : Scene) (r k : ℕ) (rest : List Part) (c : Chain) (n : ℕ) : Type 0 where
+-- a match of a rule under way, where these parts are still to come: the parts passed have a parameter for each argument kept,
+-- and the count is of them and of the nested matches kept
+pub record Underway (s : Scene) (r k : ℕ) (rest : List Part) (c : Chain) (n : ℕ) : Type 0 where
   pub passed : List Part
   pub pattern : s .parts r k ≡ passed ++ rest
   pub given : count isParameter passed ≡ argumentsIn c

@@ -249,16 +249,16 @@ pub fn count_at(store: &[usize], i: usize) -> usize
         Record::Kept {
             argument: _,
             prev: _,
-            count,
-        } => count,
+            count: so_far,
+        } => so_far,
         Record::Completed {
             depth: _,
             set: _,
             rule: _,
             args: _,
             end: _,
-            count,
-        } => count,
+            count: own,
+        } => own,
     }
 }
 

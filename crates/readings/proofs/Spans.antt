@@ -1,5 +1,5 @@
 -- A place in a pattern lies between the cursor it began at and its limit, and every exact part has taken a non-whitespace
--- byte of its own: so an exact count is at most the line's non-whitespace bytes.
+-- byte of its own: so an exact count is at most the line's non-whitespace bytes, and a match's at most the bytes that it took.
 use mathlib.Core.Path.{_≡_, sym, _∙_, subst, ap}
 use mathlib.Core.Bool.{Bool, true, false, not}
 use mathlib.Core.List.{List}
@@ -88,7 +88,7 @@ module _ (s : Scene) (law : Lawful s) where
       let (a, b) = from-within i (omega arith) v in
       omega (arith, from-solids i (omega arith) v, from-solids (omega arith) k u)
 
-  -- a place further on there is at most one such byte more
+  -- so many places further on there are at most so many such bytes more
   solids-slow : (c k : ℕ) → solidsBefore (s .line) (c + k) ≤ solidsBefore (s .line) c + k
   unfolding solidsBefore
   solids-slow c zero = let e : c + 0 ≡ c = omega arith in rw e (omega arith)

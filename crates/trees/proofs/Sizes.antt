@@ -1,5 +1,5 @@
--- Numbers that add up over a match's records, as how many words it has. Of arguments one after another
--- such a number is the sum of theirs; so what the recursion asks for is a part of what it is asked for, and no sum wraps.
+-- Numbers that add up over a match's records, as how many words it has. Of arguments one after another such a number is the sum
+-- of theirs; so what the recursion asks for is a part of what it is asked for, and no sum wraps.
 use mathlib.Core.Path.{_≡_, ap, _∙_}
 use mathlib.Core.List.{List}
 use Prim.Native.Nat.{ℕ, _+_, _≤_}

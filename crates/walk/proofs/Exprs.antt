@@ -166,12 +166,12 @@ module _ {t line sheet starts store₀ : List ℕ} {place : Place} {w : Walker} 
           (subst (λ (n : ℕ). List·Memᴰ n xs) (sym (is-next ∙ ap (λ (l : List ℕ). getD l i 0) places-are)) (member-at xs i (omega (arith, count-is))))
 
       pub expr-fits : {st n : ℕ} → st ≡ min e g → n ≤ w .cursor → ArgumentFits (exprArg st e) (place .args) n
-      expr-fits st-is few-counts = record {
+      expr-fits st-is small = record {
         start = omega (arith, expr-within .1, ready .limit, ready .short, st-is);
         end = omega (arith, expr-within .1, ready .limit, ready .short);
         before = omega (arith, ready .last, ready .stored .room);
         inner = omega arith;
-        counts = omega (arith, few-counts, ready .cursor, ready .limit, ready .short);
+        counts = omega (arith, small, ready .cursor, ready .limit, ready .short);
       }
 
       stops : {n l : ℕ} → run (exprFrom t line sheet place (w .limit) g e) v u ≡ stop n l → ran (exprPlan t line sheet (place .depth) (place .at) (place .end) (w .limit) (w .cursor)) visits pool ≡ stop n l
@@ -197,10 +197,10 @@ module _ {t line sheet starts store₀ : List ℕ} {place : Place} {w : Walker} 
               → Stands t store′ (more .used) next n (toCome t next) (moved .cursor)
           expr-stands next-is moved-is =
               stands-after ready next-is (expr-within .1) moved-is
-              (kept-stands refl (did .stored) (did .counted) here (exprArg st e) added sum (omega (arith, standing .small, expr-within .0)))
+              (kept-stands (did .stored) (did .counted) here (exprArg st e) refl added sum (omega (arith, standing .small, expr-within .0)))
 
           pub expr-counted : Counted (sceneOf t [] []) (logOf store′ (more .used))
-          expr-counted = kept-counted refl (did .stored) (did .counted) here (exprArg st e) added sum
+          expr-counted = kept-counted (did .stored) (did .counted) here (exprArg st e) refl added sum
 
         pub expr-ready : {next : Place} → next ≡ afterArg place (more .used) → length store′ ≡ 4096 → Counted (sceneOf t [] []) (logOf store′ (more .used))
             → {moved : Walker} → moved ≡ movedTo line e (held line w) → Ready t line sheet starts store′ next moved more

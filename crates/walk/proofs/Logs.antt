@@ -72,7 +72,3 @@ module _ (d : ℕ) (log log′ : List Record) (e : Earlier log) where
     shallow = λ n h. rw (gathered, ne-eqb d n (λ q. omega arith));
     earlier = subst Earlier (sym g) (earlier-more log (Completed d r k a c m) e l);
   }
-
--- what a number stood for, it stands for still
-pub made-longer : {d : ℕ} {log log′ : List Record} {ms : List Match} → Made d log log′ ms → length log ≤ length log′
-made-longer {log = log} a = omega (arith, ap length (a .grown), length-append log (a .new))

@@ -13,6 +13,8 @@ use Rattle.plain.specs.Choice.{select}
 use Rattle.syntax.specs.Walker.{held, movedTo, useful}
 use Rattle.syntax.specs.declared.walker.Walker.{Walker}
 use Rattle.defs.specs.Table.{partsBetween}
+use Rattle.defs.specs.declared.ruledef.Part.{Part}
+use Rattle.defs.specs.declared.ruledef.Part.the-variants as Part
 use Rattle.readings.specs.Tree.{Tree, nest}
 use Rattle.readings.specs.Scene.{sceneOf}
 use Rattle.readings.specs.Answer.{exactCount}
@@ -53,7 +55,7 @@ use Rattle.walk.proofs.Logs.{made-join, made-deeper}
 use Rattle.walk.proofs.Turns.{turn, turn-full, turn-stored}
 use Rattle.walk.proofs.Loops.{Did, did-none, did-same, did-stop, did-longer, index-end}
 use Rattle.walk.proofs.Turned.{turned, turn-refused, whole-stays}
-use Rattle.walk.proofs.Standing.{stands-later, addsOf, kept-stands, kept-counted}
+use Rattle.walk.proofs.Standing.{stands-later, rulesetIn, addsOf, parameterOf, kept-stands, kept-counted}
 use Rattle.walk.proofs.Exprs.{moved-there, ready-after, stands-after, left-after-arg}
 use Rattle.walk.proofs.Rules.{itself, limitsIn, underLimit, LimitsDid, limits-listed, limit-long}
 
@@ -216,8 +218,8 @@ module _ {t line sheet starts store₀ : List ℕ} {place : Place} {w : Walker} 
             go _ (no-match q) i = let z : _≡_ {A = ℕ} 0 1 = cc in absurd (omega arith)
 
         -- its record has its own count
-        pub nest-counts : k ≡ exactCount (sceneOf t [] []) (treeAt (entries store u) m)
-        nest-counts = go found inner is
+        pub inner-counts : k ≡ exactCount (sceneOf t [] []) (treeAt (entries store u) m)
+        inner-counts = go found inner is
           where
             go : (found : Inner) → InnerOf (d + 1) (entries store u) (pool .used) m (decode (getD store m 0)) found → found ≡ Ends e k → k ≡ exactCount (sceneOf t [] []) (treeAt (entries store u) m)
             go _ (new-match {e = c} b q _) i =
@@ -226,9 +228,9 @@ module _ {t line sheet starts store₀ : List ℕ} {place : Place} {w : Walker} 
             go _ (no-match q) i = let z : _≡_ {A = ℕ} 0 1 = cc in absurd (omega arith)
 
         -- the same in the store before the loop
-        pub nest-counted : k ≡ exactCount (sceneOf t [] []) (treeAt (entries store₁ u₁) m)
+        pub inner-counts-first : k ≡ exactCount (sceneOf t [] []) (treeAt (entries store₁ u₁) m)
         unfolding es₁
-        nest-counted = nest-counts ∙ ap (exactCount (sceneOf t [] [])) tree-is
+        inner-counts-first = inner-counts ∙ ap (exactCount (sceneOf t [] [])) tree-is
 
         new-here : freshOf (d + 1) (gathered (d + 1) (made es₁ (pool .used) m)) (getD es₁ m (argued none)) ≡ (treeAt es₁ m, e) ∷ []
         new-here = sym fresh-is ∙ go found inner is
@@ -239,7 +241,7 @@ module _ {t line sheet starts store₀ : List ℕ} {place : Place} {w : Walker} 
             go _ (no-match q) i = let z : _≡_ {A = ℕ} 0 1 = cc in absurd (omega arith)
 
         pub nest-fits : {st c : ℕ} → st ≡ min e g → c ≤ e → ArgumentFits (nestArg st e m) (place .args) c
-        nest-fits st-is few-counts = record {
+        nest-fits st-is small = record {
           start = omega (arith, nest-small, st-is);
           end = nest-small;
           before = omega (arith, ready .last, ready .stored .room);
@@ -281,21 +283,25 @@ module _ {t line sheet starts store₀ : List ℕ} {place : Place} {w : Walker} 
           inner-before : m < u
           inner-before = omega (arith, nest-used)
 
-          module _ {group b : ℕ} (standing : Stands t store₀ (pool .used) place b (fromNest t group place) (w .cursor)) (c-is : c ≡ b + k) (new : List Record) (since : logOf store₁ u₁ ≡ logOf store₀ (pool .used) ++ new) where
+          module _ {group b : ℕ} (standing : Stands t store₀ (pool .used) place b (fromNest t group place) (w .cursor)) (c-is : c ≡ b + k) (of : rulesetIn (treeAt (entries store₁ u₁) m) ≡ group) (new : List Record) (since : logOf store₁ u₁ ≡ logOf store₀ (pool .used) ++ new) where
             -- the match as it stands in the store of this turn
             here : Stands t store u place b (fromNest t group place) (w .cursor)
             here = stands-later (n .did .made .new) (n .did .made .grown) (stands-later new since standing)
 
             sum : c ≡ b + addsOf (sceneOf t [] []) (entries store u) (Nested m)
-            sum = c-is ∙ ap (λ (j : ℕ). b + j) nest-counts
+            sum = c-is ∙ ap (λ (j : ℕ). b + j) inner-counts
+
+            its : _≡_ {A = Part} (Part.Nested group) (parameterOf (entries store u) (Nested m))
+            unfolding es₁
+            its = ap Part.Nested (sym of ∙ ap rulesetIn (sym tree-is))
 
             pub nest-stands : {next : Place} → next ≡ afterArg place (more .used) → e ≤ w .limit → c ≤ e → {moved : Walker} → moved ≡ movedTo line e (held line w)
                 → Stands t store′ (more .used) next c (toCome t next) (moved .cursor)
-            nest-stands next-is low few-counts moved-is =
-                stands-after ready next-is low moved-is (kept-stands refl (n .did .stored) (n .did .counted) here (nestArg st e m) added sum few-counts)
+            nest-stands next-is low small moved-is =
+                stands-after ready next-is low moved-is (kept-stands (n .did .stored) (n .did .counted) here (nestArg st e m) its added sum small)
 
-            pub nest-kept : Counted (sceneOf t [] []) (logOf store′ (more .used))
-            nest-kept = kept-counted refl (n .did .stored) (n .did .counted) here (nestArg st e m) added sum
+            pub nest-counted : Counted (sceneOf t [] []) (logOf store′ (more .used))
+            nest-counted = kept-counted (n .did .stored) (n .did .counted) here (nestArg st e m) its added sum
 
           pub nest-ready : {next : Place} → next ≡ afterArg place (more .used) → e ≤ w .limit → length store′ ≡ 4096 → Counted (sceneOf t [] []) (logOf store′ (more .used)) → {moved : Walker} → moved ≡ movedTo line e (held line w) → Ready t line sheet starts store′ next moved more
           nest-ready next b z counts =
@@ -380,8 +386,9 @@ module _ {t line sheet starts store₀ : List ℕ} {place : Place} {w : Walker} 
       pub nested-since : (new : List Record) × (logOf store₁ u₁ ≡ logOf store₀ (pool .used) ++ new)
       nested-since = (all .made .new, all .made .grown)
 
-      -- an inner match ends within the limit, and has passed a byte for each that it counts
-      pub nested-within : {i : Match} → List·Memᴰ i (innersOf store₁ u₁ k (pool .used) u₁) → (i .1 ≤ w .limit) × (exactCount (sceneOf t [] []) (i .0) + w .cursor ≤ i .1)
+      -- an inner match is of the ruleset, ends within the limit, and has passed a byte for each exact part that it counts
+      pub nested-within : {i : Match} → List·Memᴰ i (innersOf store₁ u₁ k (pool .used) u₁)
+          → (i .1 ≤ w .limit) × (exactCount (sceneOf t [] []) (i .0) + w .cursor ≤ i .1) × (rulesetIn (i .0) ≡ group)
       unfolding sceneOf
       nested-within {i} j =
           let law = lawful t line sheet (ready .extents) in
@@ -389,15 +396,15 @@ module _ {t line sheet starts store₀ : List ℕ} {place : Place} {w : Walker} 
           (run-done passes visits (pool .used) passed .0) (firsts-mem sameMatch (all .gave) (rw innersAll at j)) in
           let (_, _, q, _, u) = under-lists (sceneOf t line sheet) law (depths - k) .sound group m (w .cursor) h n in
           let (a, b) = limits-within (sceneOf t line sheet) law (w .limit) (w .cursor) (partsBetween t (place .at) (place .end)) (ready .cursor) m jm in
-          (omega (arith, from-within (sceneOf t line sheet) law a (in-line m b) u), omega (arith, from-few (sceneOf t line sheet) law a (in-line m b) u, ap (exactCount (sceneOf t line sheet)) q, count-free t line sheet (i .0)))
+          (omega (arith, from-within (sceneOf t line sheet) law a (in-line m b) u), omega (arith, from-few (sceneOf t line sheet) law a (in-line m b) u, ap (exactCount (sceneOf t line sheet)) q, count-free t line sheet (i .0)), ap rulesetIn q)
         where
           in-line : (m : ℕ) → m ≤ w .limit → m ≤ length (sceneOf t line sheet .line)
           in-line m h = omega (arith, ready .limit)
 
       -- so the count with it is at most where it ended
-      pub nested-few : {u : Tree} {e j c : ℕ} → List·Memᴰ (u, e) (innersOf store₁ u₁ k (pool .used) u₁) → j ≡ exactCount (sceneOf t [] []) u
+      pub nested-below : {u : Tree} {e j c : ℕ} → List·Memᴰ (u, e) (innersOf store₁ u₁ k (pool .used) u₁) → j ≡ exactCount (sceneOf t [] []) u
           → c ≤ w .cursor → (c + j ≤ e) × (e ≤ 120)
-      nested-few i counts small = let (a, b) = nested-within i in (omega arith, omega (arith, ready .limit, ready .short))
+      nested-below i counts small = let (a, b, _) = nested-within i in (omega arith, omega (arith, ready .limit, ready .short))
 
       onward : planned ≡ run (each (innersOf store₁ u₁ k (pool .used) u₁) (nestFrom t line sheet place (w .limit) g)) v₁ u₁
       onward = plan-is ∙ then-done goes-on passes visits (pool .used) passed ∙ ap (λ (l : List Match). run (each l (nestFrom t line sheet place (w .limit) g)) v₁ u₁) (sym innersAll)

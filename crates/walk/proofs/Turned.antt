@@ -15,7 +15,7 @@ use Rattle.pool.specs.declared.Record.the-variants.{Kept}
 use Rattle.pool.specs.Log.{logOf, Added}
 use Rattle.pool.specs.Meaning.{Chain, Entry, unwind, chainAt, meaning, meanings, InnerEarlier, Stored, entries}
 use Rattle.pool.proofs.Words.{log-length}
-use Rattle.pool.proofs.Meanings.{meanings-more, meaning-length, chain-stays}
+use Rattle.pool.proofs.Meanings.{chain-later}
 use Rattle.walk.specs.declared.Place.{Place}
 use Rattle.walk.specs.declared.Walked.{Walked}
 use Rattle.walk.specs.declared.Walked.the-variants.{Done, Stopped}
@@ -54,8 +54,7 @@ left-past (halted e) = halted e
 pub whole-stays : {d : ℕ} {log log′ : List Record} {ms : List Match} (place : Place) → Made d log log′ ms → place .args ≤ length log → wholeAt place log′ ≡ wholeAt place log
 whole-stays {log = log} {log′ = log′} place m h =
     ap (λ (c : Chain). λ (x : Found). (node (place .set) (place .rule) (unwind c (x .0)), x .1))
-    (ap (λ (l : List Record). chainAt (meanings l) (place .args)) (m .grown) ∙ ap (λ (es : List Entry). chainAt es (place .args)) (meanings-more log (m .new))
-    ∙ chain-stays (meanings log) (meaning (meanings log) (m .new)) (place .args) (omega (arith, meaning-length [] log)))
+    (ap (λ (l : List Record). chainAt (meanings l) (place .args)) (m .grown) ∙ chain-later log (m .new) (place .args) h)
 
 -- ---- a turn
 

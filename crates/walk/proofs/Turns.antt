@@ -15,9 +15,9 @@ use Rattle.pool.specs.declared.Pool.{Pool}
 use Rattle.pool.specs.declared.Record.{Record}
 use Rattle.pool.specs.declared.Record.the-variants.{Kept}
 use Rattle.pool.specs.Log.{logOf, Added}
-use Rattle.pool.specs.Meaning.{Chain, none, Entry, argued, unwind, chainIn, chainAt, treeAt, linked, entryOf, meaning, meanings, InnerEarlier, Stored, entries}
+use Rattle.pool.specs.Meaning.{Chain, Entry, unwind, chainAt, treeAt, linked, InnerEarlier, Stored, entries}
 use Rattle.pool.proofs.Words.{log-length}
-use Rattle.pool.proofs.Counts.{chain-kept}
+use Rattle.pool.proofs.Meanings.{kept-grown, kept-chain}
 use Rattle.walk.specs.declared.Place.{Place}
 use Rattle.walk.specs.Met.{ran, Made, wholeAt, Reached, afterArg}
 use Rattle.walk.proofs.Outcomes.{keep-full, keep-more, mapped-done, mapped-stop}
@@ -60,11 +60,8 @@ module _ (place : Place) (arg : Argument) (n : ℕ) (p : Plan (List Found)) (lef
   many : length log ≡ u
   many = log-length store u (omega (arith, stored .sized, stored .room))
 
-  grown : log′ ≡ log ++ (Kept arg (place .args) n ∷ [])
-  grown = ap (logOf store′) (added .counted) ∙ added .grown
-
   kept : (d : ℕ) → Made d log log′ []
-  kept d = made-argument d log log′ (stored .earlier) arg (place .args) n grown (omega (arith, many, few), subst (λ (n : ℕ). InnerEarlier n (arg .kind)) (sym many) inner)
+  kept d = made-argument d log log′ (stored .earlier) arg (place .args) n (kept-grown stored added) (omega (arith, many, few), subst (λ (n : ℕ). InnerEarlier n (arg .kind)) (sym many) inner)
 
   pub turn-stored : length store′ ≡ 4096 → Stored store′ (more .used)
   turn-stored s = record {
@@ -73,16 +70,8 @@ module _ (place : Place) (arg : Argument) (n : ℕ) (p : Plan (List Found)) (lef
     earlier = kept 0 .earlier;
   }
 
-  pub turn-chain : chainAt (meanings log′) (more .used) ≡ linked es (chainAt es (place .args)) (arg .start) (arg .end) (arg .kind)
-  turn-chain =
-      ap (λ (l : List Record). chainAt (meanings l) (more .used)) grown ∙ ap (chainAt (meanings (log ++ (Kept arg (place .args) n ∷ [])))) number
-      ∙ chain-kept log arg (place .args) n
-    where
-      number : more .used ≡ suc (length log)
-      number = omega (arith, added .counted, many)
-
   whole-is : (x : Found) → wholeAt (afterArg place (more .used)) log′ x ≡ wholeAt place log (onto es arg x)
-  whole-is x = ap (λ (c : Chain). (node (place .set) (place .rule) (unwind c (x .0)), x .1)) turn-chain
+  whole-is x = ap (λ (c : Chain). (node (place .set) (place .rule) (unwind c (x .0)), x .1)) (kept-chain stored added)
       ∙ ap (λ (a : Args). (node (place .set) (place .rule) a, x .1)) (unwound es (chainAt es (place .args)) (arg .start) (arg .end) (arg .kind) (x .0))
 
   pub turn-stop : {n l : ℕ} → ran p left more ≡ stop n l → run (turn es arg p) left u ≡ stop n l

@@ -1,5 +1,5 @@
 -- What a walk over the pool asks, and what it gives: what the plan of `readings` gives, with the matches found left in the
--- pool's log, in order.
+-- pool's log, in order, and every record of the log `Counted`, before each step and after it.
 use mathlib.Core.Path.{_≡_}
 use mathlib.Core.Bool.{Bool, true, not, _&&_}
 use mathlib.Core.List.{List, [], _∷_, _++_, map}
@@ -23,7 +23,7 @@ use Rattle.pool.specs.declared.Pool.{Pool}
 use Rattle.pool.specs.declared.Record.{Record}
 use Rattle.pool.specs.Log.{logOf, depthIn, countIn}
 use Rattle.pool.specs.Meaning.{Chain, none, Entry, argued, completed, treeAt, unwind, chainAt, meaning, meanings, gathered, Earlier, Stored, entries}
-use Rattle.pool.specs.Counted.{CountedTo, Counted, SoFar}
+use Rattle.pool.specs.Counted.{CountedTo, Counted, Underway}
 use Rattle.walk.specs.declared.Place.{Place}
 use Rattle.walk.specs.declared.Inner.{Inner}
 use Rattle.walk.specs.declared.Inner.the-variants.{Ends, Nothing}
@@ -99,10 +99,11 @@ pub record Ready (t line sheet starts store : List ℕ) (place : Place) (w : Wal
   pub limit : w .limit ≤ length line
   pub top : place .depth ≡ 0 → w .limit ≡ length line
 
--- the parts that a rule's match stands before: those still to come, a parameter and these, where its argument is sought
+-- the parts that are still to come
 abbrev pub toCome : List ℕ → Place → List Part
 toCome t place = partsBetween t (place .at) (place .end)
 
+-- a step's place is past its parameter, whose argument is still sought: the match stands before that parameter
 abbrev pub fromExpr : List ℕ → Place → List Part
 fromExpr t place = Expression ∷ toCome t place
 
@@ -113,10 +114,10 @@ fromNest t r place = Nested r ∷ toCome t place
 -- has passed a byte for each exact part, so the count is at most the cursor.
 pub record Stands (t store : List ℕ) (used : ℕ) (place : Place) (count : ℕ) (rest : List Part) (cursor : ℕ) : Type 0 where
   pub own : CountedTo (sceneOf t [] []) (place .set) (place .rule) (logOf store used) (place .args)
-  pub so-far : SoFar (sceneOf t [] []) (place .set) (place .rule) rest (chainAt (entries store used) (place .args)) count
+  pub so-far : Underway (sceneOf t [] []) (place .set) (place .rule) rest (chainAt (entries store used) (place .args)) count
   pub small : count ≤ cursor
 
--- the same at a pattern's end: the count is the match's own
+-- a match at its pattern's end: the records so far are counted, and it has its own count
 pub record Ended (t store : List ℕ) (used : ℕ) (place : Place) (count : ℕ) : Type 0 where
   pub counted : Counted (sceneOf t [] []) (logOf store used)
   pub own : CountedTo (sceneOf t [] []) (place .set) (place .rule) (logOf store used) (place .args)
@@ -174,7 +175,7 @@ abbrev pub freshOf : ℕ → List Match → Entry → List Match
 freshOf d seen (argued c) = []
 freshOf d seen (completed n t e) = select (eqb n d && not (anySame sameMatch seen (t, e))) ((t, e) ∷ []) []
 
--- of a match x that is new: where it ended, and the count that its record has
+-- what is told of the record x with number m: of a match that is new, where it ended and the count that x has
 pub data InnerOf (d : ℕ) (es : List Entry) (first m : ℕ) (x : Record) : Inner → Type 0 where
   new-match : {e : ℕ} → e < 128 → depthIn x ≡ d → freshOf d (gathered d (made es first m)) (getD es m (argued none)) ≡ (treeAt es m, e) ∷ []
       → InnerOf d es first m x (Ends e (countIn x))

@@ -1,6 +1,8 @@
 // The walk: rule walk, expression step and nested step call one another, depth first, in the order of
 // `src/asm/matcher/mod.rs` (`match_with_rule`, `match_with_expr`, `match_with_nested_ruledef`). A visit is counted at each
-// arrival at a place in a pattern, so the visits left fall; they, the depth and the pool's room refuse (6, 7, 8).
+// arrival at a place in a pattern, so the visits left fall; they, the depth and the pool's room refuse (6, 7, 8). The exact
+// count of a match goes with it, into each record: every function asks that the records taken so far are `Counted` (`Ready`,
+// `Ended`), and leaves them so (`Left`).
 use defs::ruledef;
 use defs::ruledef::Part;
 use pool::Argument;
@@ -12,7 +14,6 @@ use syntax::walker::Step;
 use syntax::walker::Walker;
 use syntax::walker::least;
 ghost use mathlib.Core.Path.{_≡_};
-ghost use mathlib.Core.List.{List};
 ghost use Prim.Native.Nat.{ℕ, _+_, _<_, _≤_};
 ghost use lib.ListN.{length, getD};
 ghost use Rattle.readings.specs.Walk.{anySame, depths, sameMatch};
@@ -85,6 +86,7 @@ pub enum Inner {
 
 // The end of a pattern, whose match has this exact count. A top rule short of the line's end completes no match.
 fn finish(
+    table: &[u16],
     line: &[u8],
     store: &mut [usize],
     place: Place,
@@ -102,7 +104,8 @@ fn finish(
     requires { ⌜ walker .cursor ≤ walker .limit ⌝ }
     requires { ⌜ (place .depth ≡ 0 → walker .limit ≡ length (now line)) ⌝ }
     requires { ⌜ exact < 128 ⌝ }
-    ensures { λ r. ⌜ ((t : List ℕ) → Ended t (now (store .entry)) (pool .used) place exact → Left t (ran (finishPlan (length (now (line .entry))) (place .depth) (walker .cursor)) left pool) place (logOf (now (store .entry)) (pool .used)) (now (store .exit)) r) ⌝ }
+    requires { ⌜ Ended (now table) (now store) (pool .used) place exact ⌝ }
+    ensures { λ r. ⌜ Left (now (table .entry)) (ran (finishPlan (length (now (line .entry))) (place .depth) (walker .cursor)) left pool) place (logOf (now (store .entry)) (pool .used)) (now (store .exit)) r ⌝ }
 {
     let depth = place.depth;
     if depth == 0 {
@@ -138,8 +141,7 @@ fn is_duplicate(store: &[usize], used: usize, first: usize, m: usize, depth: usi
     false
 }
 
-// Where record m ended and what it counts, if it is a match of the depth and no record from `first` on and before it is the
-// same.
+// Where record m ended and its count, if it is a match of the depth and no record from `first` on and before it is the same.
 fn inner_match(store: &[usize], used: usize, first: usize, m: usize, depth: usize) -> Inner
     requires { ⌜ Stored (now store) used ⌝ }
     requires { ⌜ first ≤ m ⌝ }
@@ -202,7 +204,7 @@ pub fn match_with_rule(
         }
         left -= 1;
         if at == end {
-            return finish(line, store, place, exact + passed, here, left, pool);
+            return finish(table, line, store, place, exact + passed, here, left, pool);
         }
         let part = ruledef::part_at(table, at);
         at += 1;
@@ -410,9 +412,9 @@ fn match_with_nested_ruledef(
         let found = inner_match(store, has.used, first, here, depth + 1);
         match found {
             Inner::Nothing => {}
-            Inner::Ends(end, inner) => {
+            Inner::Ends(end, nested) => {
                 let start = least(end, useful);
-                let sum = exact + inner;
+                let sum = exact + nested;
                 let argument = Argument {
                     start,
                     end,

@@ -10,7 +10,7 @@ use borrow.Fn.PlainCycle.{Measures, is, falls, and}
 use Rattle.walk.proofs.Places.{begun-ready, begun-stands, begun-left, Along, along-by, along-start, along-stored, along-small, along-ended, along-spent, along-end, along-exact, along-no-exact, along-whitespace, along-no-whitespace, along-expression, along-nested, step-ready, step-stands, ruleset-few}
 use Rattle.walk.proofs.Exprs.{ExprDid, expr-start, expr-end, expr-fits, expr-full, expr-counted, expr-stands, expr-ready, expr-again, expr-halt, ends-three}
 use Rattle.walk.proofs.Rules.{RulesDid, LimitsDid, starts-long, starts-ordered, starts-few, rule-ready, rule-stands, rules-again, rules-stop, rules-start, limits-start, limits-again, limits-stop, limits-two, inner-within}
-use Rattle.walk.proofs.Nests.{NestDid, nest-start, nest-skip, nest-counted, nest-fits, nest-member, nest-full, nest-kept, nest-stands, nest-ready, nest-again, nest-halt, nest-used, nested-deep, nested-stop, nested-grown, nested-since, nested-within, nested-few, nested-halt, nested-done}
+use Rattle.walk.proofs.Nests.{NestDid, nest-start, nest-skip, inner-counts-first, nest-fits, nest-member, nest-full, nest-counted, nest-stands, nest-ready, nest-again, nest-halt, nest-used, nested-deep, nested-stop, nested-grown, nested-since, nested-within, nested-below, nested-halt, nested-done}
 use Rattle.walk.proofs.match_with_expr.Reads as expr
 use Rattle.walk.proofs.match_with_expr.Kinds as expr-kinds
 use Rattle.walk.proofs.+match_with_expr+match_with_nested_ruledef+match_with_rule.Lts-match_with_expr as E
@@ -560,9 +560,9 @@ n-add-sum t c =
     let c-loop3-test = c .before .before .before .before .before .before .loop3-test in
     let c-inner-match = c .before .before .before .before .inner-match in
     let c-found = c .before .before .found in
-    let few = nested-few (c-pre .1 .0) _ _ (c-pre .1 .1 .1) (c-if1 .left) _ _ refl refl _ (c-next-useful-index .ensures) _ (c-find-limits .ensures) (c-loop .inv) (c-loop-test .left)
+    let few = nested-below (c-pre .1 .0) _ _ (c-pre .1 .1 .1) (c-if1 .left) _ _ refl refl _ (c-next-useful-index .ensures) _ (c-find-limits .ensures) (c-loop .inv) (c-loop-test .left)
     (nest-member (c-pre .1 .0) (c-if1 .left) _ (c-loop3 .inv) (c-loop3-test .taken) _ (c-inner-match .ensures) _ _ (c-found .given .1))
-    (nest-counted (c-pre .1 .0) (c-if1 .left) _ (c-loop3 .inv) (c-loop3-test .taken) _ (c-inner-match .ensures) _ _ (c-found .given .1)) (c-pre .1 .1 .0 .small) in
+    (inner-counts-first (c-pre .1 .0) (c-if1 .left) _ (c-loop3 .inv) (c-loop3-test .taken) _ (c-inner-match .ensures) _ _ (c-found .given .1)) (c-pre .1 .1 .0 .small) in
     omega (arith, few)
 
 n-keep-requires : (t : ℕ) → N.Need-keep-requires (n-calls t) (n-at t) nested.Post n-Inv2 n-μ2 n-Inv n-μ n-Inv3 n-μ3
@@ -578,9 +578,9 @@ n-keep-requires t c κs =
     let c-inner-match = c .before .before .before .before .before .inner-match in
     let c-found = c .before .before .before .found in
     let c-least = c .before .least in
-    let few = nested-few (c-pre .1 .0) _ _ (c-pre .1 .1 .1) (c-if1 .left) _ _ refl refl _ (c-next-useful-index .ensures) _ (c-find-limits .ensures) (c-loop .inv) (c-loop-test .left)
+    let few = nested-below (c-pre .1 .0) _ _ (c-pre .1 .1 .1) (c-if1 .left) _ _ refl refl _ (c-next-useful-index .ensures) _ (c-find-limits .ensures) (c-loop .inv) (c-loop-test .left)
     (nest-member (c-pre .1 .0) (c-if1 .left) _ (c-loop3 .inv) (c-loop3-test .taken) _ (c-inner-match .ensures) _ _ (c-found .given .1))
-    (nest-counted (c-pre .1 .0) (c-if1 .left) _ (c-loop3 .inv) (c-loop3-test .taken) _ (c-inner-match .ensures) _ _ (c-found .given .1)) (c-pre .1 .1 .0 .small) in
+    (inner-counts-first (c-pre .1 .0) (c-if1 .left) _ (c-loop3 .inv) (c-loop3-test .taken) _ (c-inner-match .ensures) _ _ (c-found .given .1)) (c-pre .1 .1 .0 .small) in
     (c-loop3 .inv .did .stored .sized, (c-loop3 .inv .did .stored .room, nest-fits (c-pre .1 .0) (c-if1 .left) _ (c-loop3 .inv) (c-loop3-test .taken) _ (c-inner-match .ensures) _ _ (c-found .given .1) (c-least .ensures) (omega (arith, few))))
 
 n-enum-told-2 : (t : ℕ) → N.Need-enum-told-2 (n-calls t) (n-at t) nested.Post n-Inv2 n-μ2 n-Inv n-μ n-Inv3 n-μ3
@@ -636,17 +636,17 @@ n-match-with-rule-requires-2 t c κs =
     let c-find-limits = c .before .before .before .before .before .before .before .before .before .before .before .before .before .before .before .before .before .before .before .before .before .before .find-limits in
     let c-loop-test = c .before .before .before .before .before .before .before .before .before .before .before .before .before .before .before .before .before .before .loop-test in
     let c-set-cursor-index = c .before .set-cursor-index in
-    let few = nested-few (c-pre .1 .0) _ _ (c-pre .1 .1 .1) (c-if1 .left) _ _ refl refl _ (c-next-useful-index .ensures) _ (c-find-limits .ensures) (c-loop .inv) (c-loop-test .left)
+    let few = nested-below (c-pre .1 .0) _ _ (c-pre .1 .1 .1) (c-if1 .left) _ _ refl refl _ (c-next-useful-index .ensures) _ (c-find-limits .ensures) (c-loop .inv) (c-loop-test .left)
     (nest-member (c-pre .1 .0) (c-if1 .left) _ (c-loop3 .inv) (c-loop3-test .taken) _ (c-inner-match .ensures) _ _ (c-found .given .1))
-    (nest-counted (c-pre .1 .0) (c-if1 .left) _ (c-loop3 .inv) (c-loop3-test .taken) _ (c-inner-match .ensures) _ _ (c-found .given .1)) (c-pre .1 .1 .0 .small) in
-    let within = nested-within (c-pre .1 .0) _ _ (c-pre .1 .1 .1) (c-if1 .left) _ _ refl refl _ (c-next-useful-index .ensures) _ (c-find-limits .ensures) (c-loop .inv) (c-loop-test .left)
-    (nest-member (c-pre .1 .0) (c-if1 .left) _ (c-loop3 .inv) (c-loop3-test .taken) _ (c-inner-match .ensures) _ _ (c-found .given .1)) .0 in
+    (inner-counts-first (c-pre .1 .0) (c-if1 .left) _ (c-loop3 .inv) (c-loop3-test .taken) _ (c-inner-match .ensures) _ _ (c-found .given .1)) (c-pre .1 .1 .0 .small) in
+    let (within, _, of) = nested-within (c-pre .1 .0) _ _ (c-pre .1 .1 .1) (c-if1 .left) _ _ refl refl _ (c-next-useful-index .ensures) _ (c-find-limits .ensures) (c-loop .inv) (c-loop-test .left)
+    (nest-member (c-pre .1 .0) (c-if1 .left) _ (c-loop3 .inv) (c-loop3-test .taken) _ (c-inner-match .ensures) _ _ (c-found .given .1)) in
     let (since, grown) = nested-since (c-pre .1 .0) _ _ (c-pre .1 .1 .1) (c-if1 .left) _ _ refl refl _ (c-next-useful-index .ensures) _ (c-find-limits .ensures) (c-loop .inv) (c-loop-test .left) in (
       omega (arith, c-loop3 .inv .did .falls, c-loop .inv .falls, c-pre .0),
       (
         nest-ready (c-pre .1 .0) (c-if1 .left) _ (c-loop3 .inv) (c-loop3-test .taken) _ (c-inner-match .ensures) _ _ (c-found .given .1) _ (c-least .ensures) _ _ (rw (c-room .given .1) at (c-keep .ensures .log)) (c-after .ensures) within (omega (arith, c-keep .kept, c-loop3 .inv .did .stored .sized))
-            (nest-kept (c-pre .1 .0) (c-if1 .left) _ (c-loop3 .inv) (c-loop3-test .taken) _ (c-inner-match .ensures) _ _ (c-found .given .1) _ (c-least .ensures) _ _ (rw (c-room .given .1) at (c-keep .ensures .log)) (c-pre .1 .1 .0) refl since grown) (c-set-cursor-index .ensures),
-        nest-stands (c-pre .1 .0) (c-if1 .left) _ (c-loop3 .inv) (c-loop3-test .taken) _ (c-inner-match .ensures) _ _ (c-found .given .1) _ (c-least .ensures) _ _ (rw (c-room .given .1) at (c-keep .ensures .log)) (c-pre .1 .1 .0) refl since grown (c-after .ensures) within (omega (arith, few)) (c-set-cursor-index .ensures),
+            (nest-counted (c-pre .1 .0) (c-if1 .left) _ (c-loop3 .inv) (c-loop3-test .taken) _ (c-inner-match .ensures) _ _ (c-found .given .1) _ (c-least .ensures) _ _ (rw (c-room .given .1) at (c-keep .ensures .log)) (c-pre .1 .1 .0) refl of since grown) (c-set-cursor-index .ensures),
+        nest-stands (c-pre .1 .0) (c-if1 .left) _ (c-loop3 .inv) (c-loop3-test .taken) _ (c-inner-match .ensures) _ _ (c-found .given .1) _ (c-least .ensures) _ _ (rw (c-room .given .1) at (c-keep .ensures .log)) (c-pre .1 .1 .0) refl of since grown (c-after .ensures) within (omega (arith, few)) (c-set-cursor-index .ensures),
       ),
     )
 
@@ -777,11 +777,12 @@ r-add-finish t c =
 
 r-finish-requires : (t : ℕ) → R.Need-finish-requires (r-calls t) (r-at t) rule.Post r-Inv r-μ
 r-finish-requires t c κs =
+    let c-if2 = c .before .if2 in
     let c-pre = c .before .before .before .before .before .before .before .before .before .before .before .pre in
     let c-get-cursor-index = c .before .before .before .before .before .get-cursor-index in
     let c-set-cursor-index = c .before .before .before .before .set-cursor-index in
     let c-loop = c .before .before .before .loop in
-    (along-stored (begun-ready (c-pre .1 .0) (c-get-cursor-index .ensures) (c-set-cursor-index .ensures)) _ (c-loop .inv), (c-pre .1 .0 .sets, (c-pre .1 .0 .rules, (c-pre .1 .0 .depth, (c-pre .1 .0 .last, (omega (arith, c-loop .inv .inside, (begun-ready (c-pre .1 .0) (c-get-cursor-index .ensures) (c-set-cursor-index .ensures)) .limit, c-pre .1 .0 .short), (omega (arith, c-loop .inv .inside, c-loop .inv .under), ((λ z. c-loop .inv .under ∙ (begun-ready (c-pre .1 .0) (c-get-cursor-index .ensures) (c-set-cursor-index .ensures)) .top z), omega (arith, along-small (begun-ready (c-pre .1 .0) (c-get-cursor-index .ensures) (c-set-cursor-index .ensures)) _ (c-loop .inv))))))))))
+    (along-stored (begun-ready (c-pre .1 .0) (c-get-cursor-index .ensures) (c-set-cursor-index .ensures)) _ (c-loop .inv), (c-pre .1 .0 .sets, (c-pre .1 .0 .rules, (c-pre .1 .0 .depth, (c-pre .1 .0 .last, (omega (arith, c-loop .inv .inside, (begun-ready (c-pre .1 .0) (c-get-cursor-index .ensures) (c-set-cursor-index .ensures)) .limit, c-pre .1 .0 .short), (omega (arith, c-loop .inv .inside, c-loop .inv .under), ((λ z. c-loop .inv .under ∙ (begun-ready (c-pre .1 .0) (c-get-cursor-index .ensures) (c-set-cursor-index .ensures)) .top z), (omega (arith, along-small (begun-ready (c-pre .1 .0) (c-get-cursor-index .ensures) (c-set-cursor-index .ensures)) _ (c-loop .inv)), along-ended (begun-ready (c-pre .1 .0) (c-get-cursor-index .ensures) (c-set-cursor-index .ensures)) _ (c-loop .inv) (c-if2 .taken))))))))))
 
 r-same-length-2 : (t : ℕ) → R.Need-same-length-2 (r-calls t) (r-at t) rule.Post r-Inv r-μ
 r-same-length-2 t c =
@@ -798,7 +799,7 @@ r-returns-2 t c =
     let c-if1 = c .before .before .before .before .before .if1 in
     let c-if2 = c .before .before .before .before .if2 in
     let c-finish = c .before .before .finish in
-    begun-left (c-pre .1 .0) (c-get-cursor-index .ensures) (c-set-cursor-index .ensures) _ (along-end (begun-ready (c-pre .1 .0) (c-get-cursor-index .ensures) (c-set-cursor-index .ensures)) _ (c-loop .inv) (c-if1 .left) (c-if2 .taken) (c-finish .ensures _ (along-ended (begun-ready (c-pre .1 .0) (c-get-cursor-index .ensures) (c-set-cursor-index .ensures)) _ (c-loop .inv) (c-if2 .taken))))
+    begun-left (c-pre .1 .0) (c-get-cursor-index .ensures) (c-set-cursor-index .ensures) _ (along-end (begun-ready (c-pre .1 .0) (c-get-cursor-index .ensures) (c-set-cursor-index .ensures)) _ (c-loop .inv) (c-if1 .left) (c-if2 .taken) (c-finish .ensures))
 
 r-part-at-requires : (t : ℕ) → R.Need-part-at-requires (r-calls t) (r-at t) rule.Post r-Inv r-μ
 r-part-at-requires t c κs = search needs
