@@ -1,5 +1,6 @@
 -- What the walk's promise determines: what is returned, stated over the contract itself. Of the store it says what its records
--- mean after a walk that is not refused, and not how they are written or what stands past them; after a refusal, nothing.
+-- mean and count after a walk that is not refused, and not how they are written or what stands past them; after a refusal,
+-- nothing.
 use mathlib.Core.Path.{_≡_, refl, sym, _∙_}
 use mathlib.Core.List.{List}
 use Prim.Native.Nat.{ℕ}
