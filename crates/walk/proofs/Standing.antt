@@ -4,7 +4,6 @@ use mathlib.Core.Path.{_≡_, refl, sym, ap, subst, _∙_}
 use mathlib.Core.Bool.{true}
 use mathlib.Core.List.{List, [], _∷_, _++_}
 use Prim.Native.Nat.{ℕ, suc, _+_, _≤_}
-use native.Mathlib.Omega.{arith}
 use lib.ListN.{length, getD}
 use Rattle.plain.specs.Lists.{keepIf}
 use Rattle.defs.specs.declared.ruledef.Part.{Part}

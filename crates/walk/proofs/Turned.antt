@@ -13,7 +13,7 @@ use Rattle.pool.specs.declared.Pool.{Pool}
 use Rattle.pool.specs.declared.Record.{Record}
 use Rattle.pool.specs.declared.Record.the-variants.{Kept}
 use Rattle.pool.specs.Log.{logOf, Added}
-use Rattle.pool.specs.Meaning.{Chain, Entry, unwind, chainAt, meaning, meanings, InnerEarlier, Stored, entries}
+use Rattle.pool.specs.Meaning.{Chain, unwind, chainAt, meanings, InnerEarlier, Stored, entries}
 use Rattle.pool.proofs.Words.{log-length}
 use Rattle.pool.proofs.Meanings.{chain-later}
 use Rattle.walk.specs.declared.Place.{Place}

@@ -1,8 +1,8 @@
 -- A turn of a step: an argument is kept, and the rule walk goes on after it. What it leaves are the matches that the walk
 -- finds, with that argument in front: the argument's record is the last of the chain from which the walk goes on.
 use mathlib.Core.Path.{_≡_, refl, sym, ap, subst, _∙_}
-use mathlib.Core.List.{List, [], _∷_, _++_, map}
-use Prim.Native.Nat.{ℕ, suc, _+_, _≤_}
+use mathlib.Core.List.{List, [], _∷_, map}
+use Prim.Native.Nat.{ℕ, _≤_}
 use native.Mathlib.Omega.{arith}
 use lib.ListN.{length}
 use Rattle.readings.specs.Tree.{node, Args, expr, nest}
