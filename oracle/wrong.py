@@ -41,6 +41,7 @@ WHITE_PART = """walker.next_token().kind != syntax::TokenKind::Whitespace
                 }"""
 USEFUL = "if !token.kind.is_ignorable()\n            {\n                if nth == 0"
 CLOSER = "if paren_nesting == 0\n                    { break; }\n                \n                paren_nesting -= 1;"
+OWN_AND_NESTED = "count + rule.exact_part_count"
 SPANS_DIFFER = "if self.span != other.span"
 SPAN = "let span = {}.get_span(\n            walker_start,\n            walker_end);"
 EXPRESSION_SPAN = SPAN.format("inner_walker")
@@ -143,7 +144,9 @@ WRONG = [
     ("equal whatever the spans", MATCHER, SPANS_DIFFER, "if false"),
     ("equal whatever is nested", MATCHER, "a.is_same(b),", "true,"),
     ("the least count kept", MATCHER, ".max_by_key(|m| m.exact_part_count)", ".min_by_key(|m| m.exact_part_count)"),
-    ("nested exact parts not counted", MATCHER, "count + rule.exact_part_count", "rule.exact_part_count + 0 * count"),
+    ("nested exact parts not counted", MATCHER, OWN_AND_NESTED, "rule.exact_part_count + 0 * count"),
+    ("counts of 6 bits", MATCHER, OWN_AND_NESTED, f"({OWN_AND_NESTED}) % 64"),
+    ("counts up to 119", MATCHER, OWN_AND_NESTED, f"({OWN_AND_NESTED}).min(119)"),
     # the base
     ("no base", MATCHER, "span.location().unwrap().0);", "0);"),
     ("the line's end as its base", MATCHER, "span.location().unwrap().0);", "span.location().unwrap().1);"),

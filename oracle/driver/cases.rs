@@ -1,5 +1,5 @@
-//! Inputs: tables, lines and sheets made from a seed, short ones exhaustively, programs of several lines, lines of expressions,
-//! and damaged copies of good ones.
+//! Inputs: tables, lines and sheets made from a seed, deep ones apart, short ones exhaustively, programs of several lines,
+//! lines of expressions, and damaged copies of good ones.
 use crate::grammar;
 use crate::model::{self, Call, ProgramCall, WHITE};
 use crate::random::Random;
@@ -411,6 +411,100 @@ fn crowd(random: &mut Random) -> Case {
 /// Whether a case is one of those, whose walk is near the pool's limit and ends soon.
 pub fn is_crowd(case: &Case) -> bool {
     case.rulesets[0].1.iter().any(|rule| *rule == [513; 5]) && case.rulesets[1].1 == vec![Rule::new(); 4]
+}
+
+/// Rulesets that lead one to the next, 3 to 16 deep, with exact parts before, between and after what is nested. A ruleset's
+/// rules read the same bytes, with as many exact parts or with fewer: one leaves out whitespace parts, one has an expression or
+/// a ruleset of letters for a letter; some fail at their last letter. So there are many readings, and the greatest count, up
+/// to the line's 120 bytes, is that of some.
+pub fn deep(random: &mut Random) -> Case {
+    let deepest = random.between(3, 16);
+    let most = *random.pick(&[20, 40, 80, 120, 120]);
+    let most_ways = *random.pick(&[4, 16, 64]);
+    let alphabet: &[u8] = *random.pick(&[&b"ab"[..], b"abcdxyz", b"ab+-,", b"ab()"]);
+    let mut letters: Vec<Rule> = alphabet.iter().map(|b| vec![*b as u16]).collect();
+    let letter = 513 + deepest as u16;
+    let letter_ways = random.between(1, 2);
+    if letter_ways == 2 {
+        letters.push(vec![257]);
+    }
+
+    // Of each ruleset: its rules, the bytes they read, and in how many ways.
+    let mut rulesets = vec![(1, vec![]); deepest + 1];
+    let mut texts = vec![vec![]; deepest + 2];
+    let mut ways = vec![1; deepest + 2];
+    rulesets.push((1, letters));
+    for set in (0..=deepest).rev() {
+        let most_ways = 1 + (most_ways - 1) * (deepest + 1 - set) / (deepest + 1);
+        let mut rule = Rule::new();
+        let mut left = most - texts[set + 1].len();
+        if set < deepest {
+            if left > 0 && random.chance(300) {
+                rule.push(256);
+                left -= 1;
+            }
+            rule.push(513 + set as u16);
+            let other = random.between(set + 1, deepest);
+            if random.chance(250) && texts[other].len() <= left && ways[set + 1] * ways[other] <= most_ways {
+                rule.push(512 + other as u16);
+                left -= texts[other].len();
+            }
+        }
+        let share = 1 + 2 * left / (set + 1);
+        let places = 2 + random.chance(350) as usize;
+        for _ in 0..random.between((set == deepest) as usize, share.min(50)).min(left) {
+            let at = [0, rule.len().saturating_sub(1), rule.len()][random.below(places)];
+            rule.insert(at, *random.pick(alphabet) as u16);
+        }
+
+        let (mut text, mut rule_ways) = (Vec::new(), 1);
+        for part in &rule {
+            match part {
+                256 => text.push(*random.pick(&WHITE)),
+                512.. => {
+                    text.extend(texts[*part as usize - 512].clone());
+                    rule_ways *= ways[*part as usize - 512];
+                }
+                _ => text.push(change_case(random, *part as u8)),
+            }
+        }
+        (texts[set], ways[set]) = (text, rule_ways);
+        let mut rules = vec![rule.clone()];
+        for _ in 0..random.below(4) {
+            let (mut rule, mut more) = (rule.clone(), rule_ways);
+            rule.retain(|part| *part != 256 || random.chance(500));
+            for _ in 0..*random.pick(&[0, 1, 1, 2]) {
+                let at = random.below(rule.len());
+                if rule[at] < 256 && set < 16 && random.chance(500) {
+                    rule[at] = letter;
+                    more *= letter_ways;
+                } else if rule[at] < 256 {
+                    rule[at] = 257;
+                }
+            }
+            if random.chance(150) {
+                if let Some(last) = rule.iter_mut().rfind(|part| **part < 256) {
+                    *last = b'#' as u16;
+                    more = 0;
+                }
+            }
+            if ways[set] + more <= most_ways {
+                ways[set] += more;
+                rules.push(rule);
+            }
+        }
+        random.shuffle(&mut rules);
+        rulesets[set] = ((set > 0) as u16, rules);
+    }
+
+    let line = texts.swap_remove(0);
+    let greedy = random.below(3);
+    let sheet = sheet_of(line.len(), 0, |half, c, l| match (half, greedy) {
+        (1, 0) => 255,
+        (1, 1) => l as u8,
+        _ => l.min(model::useful(&line, c, l) + 1) as u8,
+    });
+    Case { rulesets, line, sheet }
 }
 
 /// A random case of a seed.

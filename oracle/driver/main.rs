@@ -101,6 +101,7 @@ fn matching(report: &mut Report, args: &Args) {
         matching::short(report);
     }
     matching::random(report, args.seed, args.cases);
+    matching::deep(report, args.seed, args.cases / 50);
 }
 
 fn programs(report: &mut Report, args: &Args) {

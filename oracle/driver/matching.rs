@@ -133,6 +133,7 @@ pub fn with_rust(report: &mut Report, call: &Call, lookup: bool, how: &str, told
     report.see("  an inner match dropped as a double", walked.inner_dropped > 0);
     report.see("  an inner match completed", walked.inner_completed > 0);
     report.see("  nested two deep or more", walked.deepest > 1);
+    report.see("  nested eight deep or more", walked.deepest > 7);
     report.see("  a match dropped by the greatest count", walked.dropped_by_count > 0);
     if told.number == 0 {
         bases_seen(report, call, &words);
@@ -350,6 +351,38 @@ pub fn random(report: &mut Report, seed: u64, cases: u64) {
             let [scan, _] = both(report, &call);
             report.see("lines with filled sheets", true);
             report.see("  matched", scan.number == 0);
+        }
+    }
+}
+
+/// Deep cases of a seed, from a stream of their own, and their boundaries, each under some base.
+pub fn deep(report: &mut Report, seed: u64, cases: u64) {
+    for number in 0..cases {
+        let random = &mut Random::new(!seed, number);
+        let case = cases::deep(random);
+        let mut call = if random.chance(330) {
+            case.call(Some(random))
+        } else {
+            case.call(None)
+        };
+        call.budget = cases::MOST_BUDGET;
+        call.room = cases::MOST_ROOM;
+        call.base = bases::good(random);
+        let [scan, lookup] = both(report, &call);
+        if random.chance(100) {
+            budgets(report, &call, scan.visits);
+            budgets(report, &call, lookup.visits);
+        }
+        if scan.number == 0 && random.chance(100) {
+            rooms(report, &call, scan.words as usize);
+        }
+        report.see("deep cases", true);
+        if let [tied, count, ..] = scan.answer[..] {
+            report.see("  with a reading", true);
+            report.see("  with several tied", tied > 1);
+            report.see("  with 16 tied or more", tied >= 16);
+            report.see("  with a greatest count of 64 or more", count >= 64);
+            report.see("  with one of 120", count == 120);
         }
     }
 }
