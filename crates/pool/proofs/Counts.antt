@@ -31,10 +31,9 @@ module _ (s : Scene) where
       pub counted-stays : {r k n : ℕ} → CountedTo s r k log n → CountedTo s r k (log ++ new) n
       counted-stays first = first
       counted-stays {r} {k} (after {i = i} h e t c rest) =
-          let same = sym (chain-later log new (suc i) (omega arith)) in
           after {i = i} (omega (arith, length-append log new)) (List·getD-append log new nothing i h ∙ e)
-          (subst (TakesLast (s .parts r k)) same t)
-          (c ∙ ap (soFar s r k) same) (counted-stays rest)
+          (subst (TakesLast (s .parts r k)) (sym (chain-later log new _ (omega arith))) t)
+          (c ∙ ap (soFar s r k) (sym (chain-later log new _ (omega arith)))) (counted-stays rest)
 
       count-stays : (i : ℕ) (x : Record) → CountOf s log i x → CountOf s (log ++ new) i x
       count-stays i (Kept a p n) (r, k, c) = (r, k, counted-stays c)

@@ -194,6 +194,7 @@ pub fn match_with_rule(
 {
     let mut left = visits;
     let mut at = place.at;
+    // Exact parts passed from here on, apart from `exact`, so that a rule that fails at once copies no count.
     let mut passed: usize = 0;
     // Held once, so that the compiler need not hold the limit anew at each part.
     let mut here = walker.set_cursor_index(line, walker.get_cursor_index());
