@@ -8,13 +8,14 @@ use native.Mathlib.Omega.{arith}
 use lib.ListN.{getD}
 use Rattle.plain.specs.Lists.{keepIf, count}
 use Rattle.plain.proofs.Lists.{count-append}
+use Rattle.defs.specs.Table.{isParameter}
 use Rattle.defs.specs.declared.ruledef.Part.{Part}
 use Rattle.defs.specs.declared.ruledef.Part.the-variants.{Exact, Whitespace, Expression, Nested}
 use Rattle.readings.specs.Tree.{Tree, node, Args, end, expr, nest}
 use Rattle.readings.specs.Scene.{Scene}
 use Rattle.readings.specs.Answer.{isExact, exactParts, exactCount, nestedCount}
 use Rattle.pool.specs.Meaning.{Chain, none, then-expr, then-nest, unwind}
-use Rattle.pool.specs.Counted.{isParameter, passedWith, argumentsIn, soFar, Underway}
+use Rattle.pool.specs.Counted.{passedWith, argumentsIn, soFar, Underway}
 
 passed-none : (ps : List Part) → passedWith ps 0 ≡ []
 unfolding passedWith

@@ -2,14 +2,14 @@
 -- exact count. An argument has the count of its match so far, as it stood when the record was taken: the exact parts passed in
 -- its rule, and the counts of the nested matches kept, its own included.
 use mathlib.Core.Path.{_≡_}
-use mathlib.Core.Bool.{Bool, true, false}
 use mathlib.Core.List.{List, [], _∷_, _++_}
 use Prim.Native.Nat.{ℕ, zero, suc, _+_, _<_}
 use lib.ListN.{length, getD}
 use Rattle.plain.specs.Choice.{select}
 use Rattle.plain.specs.Lists.{keepIf, count}
+use Rattle.defs.specs.Table.{isParameter}
 use Rattle.defs.specs.declared.ruledef.Part.{Part}
-use Rattle.defs.specs.declared.ruledef.Part.the-variants.{Exact, Whitespace, Expression, Nested}
+use Rattle.defs.specs.declared.ruledef.Part.the-variants.{Whitespace, Expression, Nested}
 use Rattle.readings.specs.Tree.{node, end}
 use Rattle.readings.specs.Scene.{Scene}
 use Rattle.readings.specs.Answer.{exactParts, exactCount, nestedCount}
@@ -20,13 +20,6 @@ use Rattle.pool.specs.Log.{nothing}
 use Rattle.pool.specs.Meaning.{Chain, none, then-expr, then-nest, unwind, chainAt, meanings}
 
 -- ---- a match so far
-
--- a part that takes an argument
-abbrev pub isParameter : Part → Bool
-isParameter (Exact b) = false
-isParameter Whitespace = false
-isParameter Expression = true
-isParameter (Nested r) = true
 
 -- a pattern's parts up to its n-th parameter, that one included
 unfoldable pub passedWith : List Part → ℕ → List Part

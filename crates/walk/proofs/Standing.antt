@@ -6,6 +6,7 @@ use mathlib.Core.List.{List, [], _∷_, _++_}
 use Prim.Native.Nat.{ℕ, suc, _+_, _≤_}
 use lib.ListN.{length, getD}
 use Rattle.plain.specs.Lists.{keepIf}
+use Rattle.defs.specs.Table.{isParameter}
 use Rattle.defs.specs.declared.ruledef.Part.{Part}
 use Rattle.defs.specs.declared.ruledef.Part.the-variants.{Whitespace, Expression}
 use Rattle.defs.specs.declared.ruledef.Part.the-variants as Part
@@ -20,7 +21,7 @@ use Rattle.pool.specs.declared.Record.{Record}
 use Rattle.pool.specs.declared.Record.the-variants.{Kept}
 use Rattle.pool.specs.Log.{logOf, Added}
 use Rattle.pool.specs.Meaning.{Chain, then-nest, Entry, unwind, chainAt, treeAt, linked, meanings, Stored, entries}
-use Rattle.pool.specs.Counted.{isParameter, argumentsIn, soFar, TakesLast, CountedTo, Counted, Underway}
+use Rattle.pool.specs.Counted.{argumentsIn, soFar, TakesLast, CountedTo, Counted, Underway}
 use Rattle.pool.proofs.Meanings.{chain-later, kept-grown, kept-number, kept-chain}
 use Rattle.pool.proofs.Counts.{counted-within, counted-stays, argument-own, argument-counted}
 use Rattle.pool.proofs.Passing.{expr-adds, nest-adds, so-kept, so-recorded, so-next}
