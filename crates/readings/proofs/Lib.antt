@@ -10,6 +10,7 @@ pub mod Moved
 pub mod Scan
 pub mod Packed
 pub mod Lookups
+pub mod Fails
 pub mod Best
 pub mod Calls
 pub mod Agree

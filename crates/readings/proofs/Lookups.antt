@@ -33,10 +33,10 @@ use Rattle.readings.proofs.Packed.{past-cursor}
 
 -- ---- the bytes that count, from a place on
 
-abbrev solidsFrom : List ℕ → ℕ → List ℕ
+abbrev pub solidsFrom : List ℕ → ℕ → List ℕ
 solidsFrom line c = map lowered (keepIf isSolid (drop c line))
 
-solids-here : (line : List ℕ) (c : ℕ) (b : Bool) → c < length line → isSolid (byteAt line c) ≡ b
+pub solids-here : (line : List ℕ) (c : ℕ) (b : Bool) → c < length line → isSolid (byteAt line c) ≡ b
     → solidsFrom line c ≡ map lowered (select b (byteAt line c ∷ keepIf isSolid (drop (suc c) line)) (keepIf isSolid (drop (suc c) line)))
 unfolding keepIf
 solids-here line c b h e =
@@ -44,7 +44,7 @@ solids-here line c b h e =
     ∙ ap (λ (t : Bool). map lowered (select t (byteAt line c ∷ keepIf isSolid (drop (suc c) line)) (keepIf isSolid (drop (suc c) line)))) e
 
 -- whitespace is passed over
-solids-skip : (line : List ℕ) (d c : ℕ) → c + d ≤ length line → ((i : ℕ) → c ≤ i → i < c + d → isWhitespace (byteAt line i) ≡ true)
+pub solids-skip : (line : List ℕ) (d c : ℕ) → c + d ≤ length line → ((i : ℕ) → c ≤ i → i < c + d → isWhitespace (byteAt line i) ≡ true)
     → solidsFrom line c ≡ solidsFrom line (c + d)
 solids-skip line zero c h w = let e : c ≡ c + 0 = omega arith in ap (solidsFrom line) e
 solids-skip line (suc d) c h w =

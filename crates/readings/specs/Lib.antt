@@ -4,6 +4,7 @@ pub mod Reading
 pub mod Plan
 pub mod Walk
 pub mod Lookup
+pub mod Fail
 pub mod Answer
 pub mod Call
 pub mod Demand
