@@ -26,7 +26,7 @@ use Rattle.defs.proofs.Fits.{part-low}
 use Rattle.ruledef_map.specs.RuledefMap.{leading, rulePrefix, linePrefix}
 use Rattle.readings.proofs.Records.{span-within}
 use Rattle.sorting.proofs.Insertions.{less-or-not, every-none, every-cons, every-head, every-tail}
-use Rattle.prefix_order.proofs.Keys.{isByte, leading-none, leading-exact, leading-other}
+use Rattle.leads.proofs.Keys.{isByte, leading-none, leading-exact, leading-other}
 
 -- what the first bytes pass, of bytes that all pass
 pub every-take : (f : ℕ → Bool) (n : ℕ) (xs : List ℕ) → every f xs ≡ true → every f (take n xs) ≡ true

@@ -24,8 +24,9 @@ use Rattle.ruledef_map.proofs.Orders.{same-eq}
 use Rattle.readings.proofs.Records.{kept-map, top-below, few-records, top-many}
 use Rattle.sorting.proofs.Insertions.{every-none, every-cons, every-head, every-tail, ascending-length, ascending-ordered, kept-ascending, order-none, order-cons, order-head, order-tail, every-kept}
 use Rattle.sorting.proofs.Members.{member-at}
-use Rattle.prefix_order.specs.PrefixOrder.{keyOf, entryOf, entries, rulesWith, LayAsked, OrderAsked}
-use Rattle.prefix_order.proofs.Keys.{isByte, same-key}
+use Rattle.leads.specs.Leads.{keyOf, keyAt}
+use Rattle.prefix_order.specs.PrefixOrder.{entryOf, entries, rulesWith, LayAsked, OrderAsked}
+use Rattle.leads.proofs.Keys.{isByte, same-key}
 use Rattle.prefix_order.proofs.Bytes.{rule-bytes, rule-short}
 
 -- ---- laying them
@@ -49,14 +50,9 @@ module _ (t : List ℕ) where
     pub laying-all : {n : ℕ} → i ≡ n → take n order ≡ map (entryOf t) (take n rules)
     laying-all e = rw (← e) (before .laid)
 
-  module _ {places : List ℕ} {i from to : ℕ} (placed : PlacedAt t places i) (begin : from ≡ getD places (4 * i + 2) 0) (end : to ≡ getD places (4 * i + 3) 0) where
-    pub part-end : to ≤ length t
-    part-end = omega (arith, end, placed .to, parts-within t i (ruleSpan t i) refl)
-
-    pub entry-is : {key : ℕ} → key ≡ keyOf (rulePrefix (partsBetween t from to)) → key * 512 + i ≡ entryOf t i
-    unfolding entryOf
-    entry-is e =
-        rw (e, begin, end, placed .from, placed .to, parts-whole t i (ruleSpan t i) refl)
+  pub entry-is : (i : ℕ) {key : ℕ} → key ≡ keyAt t i → key * 512 + i ≡ entryOf t i
+  unfolding entryOf keyAt
+  entry-is i e = ap (λ (k : ℕ). k * 512 + i) e
 
 -- ---- sorting them
 

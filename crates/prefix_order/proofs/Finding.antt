@@ -18,9 +18,10 @@ use Rattle.ruledef_map.specs.declared.Prefix.{Prefix}
 use Rattle.readings.proofs.Records.{found-many}
 use Rattle.sorting.specs.Ascending.{inOrder}
 use Rattle.sorting.proofs.Insertions.{ascending-order}
-use Rattle.prefix_order.specs.PrefixOrder.{keyOf, entries, rulesWith, FindAsked, RunAsked}
+use Rattle.leads.specs.Leads.{keyOf}
+use Rattle.prefix_order.specs.PrefixOrder.{entries, rulesWith, FindAsked, RunAsked}
 use Rattle.prefix_order.proofs.Bytes.{every-take, line-bytes, line-short}
-use Rattle.prefix_order.proofs.Keys.{isByte}
+use Rattle.leads.proofs.Keys.{isByte}
 use Rattle.prefix_order.proofs.Entries.{entries-with}
 
 -- ---- the prefix that the code holds

@@ -1,4 +1,3 @@
-pub mod Keys
 pub mod Runs
 pub mod Bytes
 pub mod Entries

@@ -14,7 +14,8 @@ use Rattle.defs.specs.Ruledef.{isTopRule}
 use Rattle.ruledef_map.specs.RuledefMap.{rulePrefix, topRules}
 use Rattle.sorting.proofs.Insertions.{less-or-not, ascending-length}
 use Rattle.sorting.proofs.Members.{member-at, ascending-has, ascending-only, ascending-next}
-use Rattle.prefix_order.specs.PrefixOrder.{keyOf, entryOf, entries, prefixOrder}
+use Rattle.leads.specs.Leads.{keyOf}
+use Rattle.prefix_order.specs.PrefixOrder.{entryOf, entries, prefixOrder}
 use Rattle.prefix_order.proofs.Entries.{small-top, entry-place}
 
 -- one entry stands before another by its rule's prefix, or by the rule's place

@@ -10,12 +10,9 @@ use Rattle.plain.specs.Lists.{keepIf}
 use Rattle.line.specs.Line.{faultAt}
 use Rattle.defs.specs.Table.{tableFits, ruleParts}
 use Rattle.places.specs.Places.{Placed}
+use Rattle.leads.specs.Leads.{keyOf}
 use Rattle.ruledef_map.specs.RuledefMap.{rulePrefix, topRules}
 use Rattle.sorting.specs.Ascending.{ascending, inOrder}
-
--- a prefix as one number: four bytes, the first weighs most, a missing byte is 0
-unfoldable pub keyOf : List ℕ → ℕ
-keyOf p = ((getD p 0 0 * 256 + getD p 1 0) * 256 + getD p 2 0) * 256 + getD p 3 0
 
 -- what stands for rule i in the order: its prefix, and then its place in the table
 unfoldable pub entryOf : List ℕ → ℕ → ℕ

@@ -2,6 +2,7 @@
 // the rules of a line's prefix of each length are a run, found by bisection. It stands for the Rust's hash map of
 // `src/asm/defs/ruledef_map.rs`. Nothing is refused: table and line are accepted ones.
 use defs::ruledef;
+use leads;
 use ruledef_map::Prefix;
 ghost use mathlib.Core.Path.{_≡_};
 ghost use mathlib.Core.Bool.{true};
@@ -11,47 +12,17 @@ ghost use lib.Dec.{ltb};
 ghost use lib.ListN.{length, take};
 ghost use Rattle.plain.specs.Choice.{select};
 ghost use Rattle.plain.specs.Buffers.{putAfter};
-ghost use Rattle.defs.specs.Table.{partsBetween};
-ghost use Rattle.ruledef_map.specs.RuledefMap.{rulePrefix, linePrefix, foundRules};
+ghost use Rattle.ruledef_map.specs.RuledefMap.{linePrefix, foundRules};
 ghost use Rattle.sorting.specs.Ascending.{inOrder};
-ghost use Rattle.prefix_order.specs.PrefixOrder.{keyOf, entryOf, entries, rulesWith};
+ghost use Rattle.leads.specs.Leads.{keyOf};
+ghost use Rattle.prefix_order.specs.PrefixOrder.{entryOf, entries, rulesWith};
 ghost use Rattle.prefix_order.specs.PrefixOrder.{LayAsked, OrderAsked, FindAsked, FirstFrom, RunAsked};
 
-// A key's bytes, and what a byte weighs against the next.
-const BYTES: usize = 4;
-
+// What a key's byte weighs against the next.
 const BASE: usize = 256;
 
 // An entry is a key times this, and a place.
 const PLACES: usize = ruledef::MOST_RULES;
-
-// A part word below this is an exact part's byte.
-const EXACT: u16 = 256;
-
-// The prefix of the parts whose words stand from one place to before another, as a number.
-fn prefix_key(table: &[u16], from: usize, to: usize) -> usize
-    requires { ⌜ to ≤ length (now table) ⌝ }
-    ensures answers { λ r. ⌜ r ≡ keyOf (rulePrefix (partsBetween (now (table .entry)) from to)) ⌝ }
-    ensures small { λ r. ⌜ r < 4294967296 ⌝ }
-{
-    let mut key: usize = 0;
-    let mut left: usize = BYTES;
-    let mut at = from;
-    while 0 < left {
-        left -= 1;
-        key = key * BASE;
-        if at < to {
-            let word = table[at];
-            at += 1;
-            if word < EXACT {
-                key += token::to_ascii_lowercase(word as u8) as usize;
-            } else {
-                at = to;
-            }
-        }
-    }
-    key
-}
 
 // Lays each rule's entry, in the rules' order.
 fn lay_entries(table: &[u16], places: &[u16], rules: &[u16], count: usize, order: &mut [usize])
@@ -66,7 +37,7 @@ fn lay_entries(table: &[u16], places: &[u16], rules: &[u16], count: usize, order
         let words = places::WORDS * rule;
         let from = places[words + places::FROM] as usize;
         let to = places[words + places::TO] as usize;
-        order[at] = prefix_key(table, from, to) * PLACES + rule;
+        order[at] = leads::prefix_key(table, from, to) * PLACES + rule;
     }
 }
 

@@ -220,6 +220,16 @@ module _ (t line sheet : List ℕ) (ok : tableFits t ≡ true) where
         omega (arith, ruleset-below t (rulesets-fit t ok) i h, sizes t ok .sets),
       )
 
+  -- and those from where a ruleset begins to where the next one does are of it
+  pub set-of : (r i : ℕ) → beginsAt t r ≤ i → i < beginsAt t (r + 1) → rulesetAt t i ≡ r
+  set-of r i low high = owned t ok r i (range-has (beginsAt t r) (rulesIn t r) i low (omega (arith, rules-many r)))
+
+  pub begins-last : beginsAt t (rulesetsIn t) ≡ recordsIn t
+  begins-last = all-begun t ok
+
+  pub few-sets : rulesetsIn t ≤ 32
+  few-sets = sizes t ok .sets
+
   -- the scene's rules of a ruleset, and their parts, are those of its records
   pub rules-range : (r : ℕ) → sceneOf t line sheet .rules r ≡ range 0 (beginsAt t (r + 1) - beginsAt t r)
   unfolding sceneOf

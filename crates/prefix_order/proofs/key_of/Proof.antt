@@ -1,7 +1,7 @@
 -- Each byte is what stands there in the first bytes, and the number is their key.
 use borrow.Author.Needs.{needs}
 use native.Mathlib.Omega.{arith}
-use Rattle.prefix_order.proofs.Keys.{key-within}
+use Rattle.leads.proofs.Keys.{key-within}
 use Rattle.prefix_order.proofs.key_of.Statement.{statement}
 use Rattle.prefix_order.proofs.key_of.Tie as tie
 

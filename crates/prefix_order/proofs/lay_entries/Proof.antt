@@ -4,7 +4,8 @@ use mathlib.Core.Path.{_≡_, refl}
 use Prim.Native.Nat.{_+_, _*_, _-_, _≤_}
 use native.Mathlib.Omega.{arith}
 use lib.ListN.{length, getD, length-set}
-use Rattle.prefix_order.proofs.Entries.{Laying, laying-none, laying-turn, laying-all, part-end, entry-is}
+use Rattle.prefix_order.proofs.Entries.{Laying, laying-none, laying-turn, laying-all, entry-is}
+use Rattle.leads.proofs.Laying.{part-end, placed-key}
 use Rattle.prefix_order.proofs.lay_entries.Statement.{statement}
 use Rattle.prefix_order.proofs.lay_entries.Tie as tie
 
@@ -75,7 +76,7 @@ loop-less : tie.Need-loop-less Inv-loop μ-loop
 loop-less c = search needs
 
 loop-again : tie.Need-loop-again Inv-loop μ-loop
-loop-again c = (laying-turn _ (c .before .before .before .before .before .loop .inv .0) (omega (arith, c .before .before .before .before .before .before .before .before .before .before .pre .fits)) (omega (arith, c .before .before .before .before .before .before .before .before .before .before .pre .room, c .before .before .before .before .before .loop .inv .1 .0)) (entry-is _ ((c .before .before .before .before .before .before .before .before .before .before .pre .placed .each) (c .before .before .before .before .before .loop .i) (c .before .before .before .before .loop-test .taken)) refl refl (c .prefix-key .ensures .0)), (simp length-set (c .before .before .before .before .before .loop .inv .1 .0), omega arith))
+loop-again c = (laying-turn _ (c .before .before .before .before .before .loop .inv .0) (omega (arith, c .before .before .before .before .before .before .before .before .before .before .pre .fits)) (omega (arith, c .before .before .before .before .before .before .before .before .before .before .pre .room, c .before .before .before .before .before .loop .inv .1 .0)) (entry-is _ _ (placed-key _ ((c .before .before .before .before .before .before .before .before .before .before .pre .placed .each) (c .before .before .before .before .before .loop .i) (c .before .before .before .before .loop-test .taken)) refl refl (c .prefix-key .ensures .0))), (simp length-set (c .before .before .before .before .before .loop .inv .1 .0), omega arith))
 
 same-length : tie.Need-same-length Inv-loop μ-loop
 same-length c = c .before .loop .inv .1 .0

@@ -4,10 +4,10 @@ use mathlib.Core.Path.{refl}
 use native.Mathlib.Omega.{arith}
 use Rattle.defs.specs.Table.{partsBetween}
 use Rattle.ruledef_map.specs.RuledefMap.{rulePrefix}
-use Rattle.prefix_order.specs.PrefixOrder.{keyOf}
-use Rattle.prefix_order.proofs.Keys.{Filling, filling-none, filling-fits, filling-end, filling-other, filling-exact, filling-all}
-use Rattle.prefix_order.proofs.prefix_key.Statement.{statement}
-use Rattle.prefix_order.proofs.prefix_key.Tie as tie
+use Rattle.leads.specs.Leads.{keyOf}
+use Rattle.leads.proofs.Keys.{Filling, filling-none, filling-fits, filling-end, filling-other, filling-exact, filling-all}
+use Rattle.leads.proofs.prefix_key.Statement.{statement}
+use Rattle.leads.proofs.prefix_key.Tie as tie
 
 abbrev Inv-loop : tie.InvT-loop
 Inv-loop table from to key₀ left₀ at₀ key left at = Filling table to (keyOf (rulePrefix (partsBetween table from to))) at left key

@@ -23,7 +23,7 @@ use Rattle.defs.proofs.Words.{parts-none, parts-next}
 use Rattle.ruledef_map.specs.RuledefMap.{leading, rulePrefix, sameBytes}
 use Rattle.ruledef_map.proofs.Orders.{same-eq, same-refl}
 use Rattle.sorting.proofs.Insertions.{less-or-not, every-head, every-tail}
-use Rattle.prefix_order.specs.PrefixOrder.{keyOf}
+use Rattle.leads.specs.Leads.{keyOf}
 
 -- ---- filling
 
@@ -173,7 +173,7 @@ module _
 abbrev pub isByte : ℕ → Bool
 isByte b = ltb 0 b && ltb b 256
 
-byte-some : (b : ℕ) → isByte b ≡ true → 0 < b
+pub byte-some : (b : ℕ) → isByte b ≡ true → 0 < b
 byte-some b h = ltb-true 0 b (and-left (ltb 0 b) (ltb b 256) h)
 
 byte-below : {b : ℕ} → isByte b ≡ true → b < 256
@@ -193,7 +193,7 @@ same-places (suc n) (x ∷ p) (y ∷ q) a b k l h =
     ap₂ _∷_ (h 0 (omega arith))
     (same-places n p q (every-tail isByte x p a) (every-tail isByte y q b) (omega arith) (omega arith) (λ j m. h (suc j) (omega arith)))
 
-small-at : (p : List ℕ) → every isByte p ≡ true → (j : ℕ) → getD p j 0 < 256
+pub small-at : (p : List ℕ) → every isByte p ≡ true → (j : ℕ) → getD p j 0 < 256
 small-at [] h j = omega arith
 small-at (x ∷ p) h zero = byte-below (every-head isByte x p h)
 small-at (x ∷ p) h (suc j) = small-at p (every-tail isByte x p h) j

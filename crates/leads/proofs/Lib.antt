@@ -1,0 +1,4 @@
+pub mod Keys
+pub mod Words
+pub mod Laying
+pub mod Nested
