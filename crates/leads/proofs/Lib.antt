@@ -2,3 +2,5 @@ pub mod Keys
 pub mod Words
 pub mod Laying
 pub mod Nested
+pub mod Bytes
+pub mod Told

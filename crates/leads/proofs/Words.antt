@@ -31,7 +31,7 @@ later-more : (v m : ℕ) → later (suc v) m ≡ later v (later 1 m)
 later-more v zero = refl
 later-more v (suc m) = omega arith
 
-failing-none : (p : List ℕ) → failing [] p ≡ 0
+pub failing-none : (p : List ℕ) → failing [] p ≡ 0
 unfolding failing agreed
 failing-none p = ap (λ (b : Bool). select b 1 0) (le-ltb 0 0 (omega arith))
 

@@ -27,7 +27,7 @@ use Rattle.sorting.proofs.Members.{member-at}
 use Rattle.leads.specs.Leads.{keyOf, keyAt}
 use Rattle.prefix_order.specs.PrefixOrder.{entryOf, entries, rulesWith, LayAsked, OrderAsked}
 use Rattle.leads.proofs.Keys.{isByte, same-key}
-use Rattle.prefix_order.proofs.Bytes.{rule-bytes, rule-short}
+use Rattle.leads.proofs.Bytes.{rule-bytes, rule-short}
 
 -- ---- laying them
 

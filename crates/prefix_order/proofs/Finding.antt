@@ -20,7 +20,8 @@ use Rattle.sorting.specs.Ascending.{inOrder}
 use Rattle.sorting.proofs.Insertions.{ascending-order}
 use Rattle.leads.specs.Leads.{keyOf}
 use Rattle.prefix_order.specs.PrefixOrder.{entries, rulesWith, FindAsked, RunAsked}
-use Rattle.prefix_order.proofs.Bytes.{every-take, line-bytes, line-short}
+use Rattle.leads.proofs.Bytes.{every-take}
+use Rattle.prefix_order.proofs.Bytes.{line-bytes, line-short}
 use Rattle.leads.proofs.Keys.{isByte}
 use Rattle.prefix_order.proofs.Entries.{entries-with}
 

@@ -17,7 +17,8 @@ use Rattle.plain.specs.Choice.{select}
 use Rattle.plain.specs.Lists.{keepIf}
 use Rattle.plain.proofs.Tests.{tested}
 use Rattle.token.specs.Token.{isSolid, isWhitespace, lowered, sameLetter}
-use Rattle.syntax.specs.Walker.{byteAt, held, pastPlace, expectChar}
+use Rattle.syntax.specs.Walker.{byteAt, held, UsefulPlace, useful, pastPlace, expectChar}
+use Rattle.syntax.proofs.Useful.{held-within, useful-is}
 use Rattle.ruledef_map.specs.RuledefMap.{leading, rulePrefix}
 use Rattle.defs.specs.declared.ruledef.Part.{Part}
 use Rattle.defs.specs.declared.ruledef.Part.the-variants.{Exact, Whitespace, Expression, Nested}
@@ -25,83 +26,95 @@ use Rattle.readings.specs.Scene.{Scene, walkerAt}
 use Rattle.readings.specs.Plan.{Plan, give, visit, done, stop, run, _then_, after, mapped}
 use Rattle.readings.specs.Walk.{Found, Match, Below, usefulAt, wentTo, exactly, walk}
 use Rattle.readings.specs.Fail.{ahead, agreed, FailsAt, failing, visited}
-use Rattle.readings.proofs.Leaves.{useful-found}
 use Rattle.readings.proofs.Lookups.{solidsFrom, solids-here, solids-skip}
 
-module _ (s : Scene) (below : Below) (fin : ℕ → Bool) (l : ℕ) (within : l ≤ length (s .line)) where
+-- ---- the bytes that count, from a cursor on and below a limit
+
+module _ (line : List ℕ) (l : ℕ) (within : l ≤ length line) where
   -- what is seen of the line
-  abbrev seen : List ℕ
-  seen = take l (s .line)
+  abbrev pub seen : List ℕ
+  seen = take l line
 
   long : length seen ≡ l
-  long = length-take-le l (s .line) within
+  long = length-take-le l line within
 
-  byte-seen : (i : ℕ) → i < l → byteAt seen i ≡ byteAt (s .line) i
-  byte-seen i h = getD-take l (s .line) i 0 h
-
-  -- ---- an exact part meets the next byte that counts
+  byte-seen : (i : ℕ) → i < l → byteAt seen i ≡ byteAt line i
+  byte-seen i h = getD-take l line i 0 h
 
   module _ (c : ℕ) (inside : c ≤ l) where
-    abbrev u : ℕ
-    u = usefulAt s l c
+    abbrev pub u : ℕ
+    u = useful line (walkerAt line l c)
+
+    found : UsefulPlace line (walkerAt line l c) u
+    found = useful-is line (walkerAt line l c) (held-within line (record { cursor = c; limit = l }))
 
     useful-solids : (c ≤ u) × (u ≤ l) × (solidsFrom seen c ≡ solidsFrom seen u)
     unfolding held
     useful-solids =
-        let p = useful-found s l c in
-        let from : c ≤ u = omega (arith, p .from) in
-        let most : u ≤ l = omega (arith, p .within) in
+        let from : c ≤ u = omega (arith, found .from) in
+        let most : u ≤ l = omega (arith, found .within) in
         let at : c + (u - c) ≡ u = omega arith in (
           from,
           most,
-          solids-skip seen (u - c) c (omega (arith, long)) (λ i a b. ap isWhitespace (byte-seen i (omega arith)) ∙ p .passed i (omega arith) (omega arith))
+          solids-skip seen (u - c) c (omega (arith, long)) (λ i a b. ap isWhitespace (byte-seen i (omega arith)) ∙ found .passed i (omega arith) (omega arith))
           ∙ ap (solidsFrom seen) at,
         )
 
-    met-byte : u < l → solidsFrom seen c ≡ lowered (byteAt (s .line) u) ∷ solidsFrom seen (u + 1)
+    pub met-byte : u < l → solidsFrom seen c ≡ lowered (byteAt line u) ∷ solidsFrom seen (u + 1)
     unfolding held
     met-byte h =
-        useful-solids .2 ∙ solids-here seen u true (omega (arith, long)) (ap isSolid (byte-seen u h) ∙ ap not (useful-found s l c .stands (omega (arith, within))))
+        useful-solids .2 ∙ solids-here seen u true (omega (arith, long)) (ap isSolid (byte-seen u h) ∙ ap not (found .stands (omega (arith, within))))
         ∙ ap (λ (k : ℕ). lowered (byteAt seen u) ∷ solidsFrom seen k) (sym (add-one u))
         ∙ ap (λ (b : ℕ). lowered b ∷ solidsFrom seen (u + 1)) (byte-seen u h)
 
-    met-end : l ≤ u → solidsFrom seen c ≡ []
+    pub met-end : l ≤ u → solidsFrom seen c ≡ []
     unfolding keepIf
     met-end h = useful-solids .2 ∙ ap (λ (x : List ℕ). map lowered (keepIf isSolid x)) (drop-of-length-le seen {i = u} (omega (arith, long)))
 
-    went : Bool → Option ℕ
-    went b = wentTo (select b (true, pastPlace u (walkerAt (s .line) l c)) (false, walkerAt (s .line) l c))
+  pub met-none : solidsFrom seen l ≡ []
+  unfolding keepIf
+  met-none = ap (λ (x : List ℕ). map lowered (keepIf isSolid x)) (drop-of-length-le seen {i = l} (omega (arith, long)))
 
-    went-is : (t : Bool) → went (true && t) ≡ select t (some (u + 1)) none
+-- ---- an exact part meets the next of them
+
+module _ (s : Scene) (below : Below) (fin : ℕ → Bool) (l : ℕ) (within : l ≤ length (s .line)) where
+  module _ (c : ℕ) (inside : c ≤ l) where
+    abbrev at : ℕ
+    at = usefulAt s l c
+
+    went : Bool → Option ℕ
+    went b = wentTo (select b (true, pastPlace at (walkerAt (s .line) l c)) (false, walkerAt (s .line) l c))
+
+    went-is : (t : Bool) → went (true && t) ≡ select t (some (at + 1)) none
     unfolding went
     went-is true = refl
     went-is false = refl
 
-    past-byte : u < l → (x : ℕ) (t : Bool) → sameLetter (byteAt (s .line) u) x ≡ t → exactly s l c x ≡ select t (some (u + 1)) none
+    past-byte : at < l → (x : ℕ) (t : Bool) → sameLetter (byteAt (s .line) at) x ≡ t → exactly s l c x ≡ select t (some (at + 1)) none
     unfolding exactly expectChar held went
     past-byte h x t e =
-        let i : ltb u (walkerAt (s .line) l c .limit) ≡ true = lt-ltb u (walkerAt (s .line) l c .limit) (omega (arith, within)) in
-        ap (λ (b : Bool). went (b && sameLetter (byteAt (s .line) u) x)) i ∙ ap (λ (b : Bool). went (true && b)) e ∙ went-is t
+        let i : ltb at (walkerAt (s .line) l c .limit) ≡ true = lt-ltb at (walkerAt (s .line) l c .limit) (omega (arith, within)) in
+        ap (λ (b : Bool). went (b && sameLetter (byteAt (s .line) at) x)) i ∙ ap (λ (b : Bool). went (true && b)) e ∙ went-is t
 
-    past-end : l ≤ u → (x : ℕ) → exactly s l c x ≡ none
+    past-end : l ≤ at → (x : ℕ) → exactly s l c x ≡ none
     unfolding exactly expectChar held
-    past-end h x = let i : ltb u (walkerAt (s .line) l c .limit) ≡ false = le-ltb u (walkerAt (s .line) l c .limit) (omega arith) in rw i
+    past-end h x = let i : ltb at (walkerAt (s .line) l c .limit) ≡ false = le-ltb at (walkerAt (s .line) l c .limit) (omega arith) in rw i
 
   -- ---- so a walk fails where the bytes differ
 
   -- of at most k leading exact parts, those that the line has from cursor c on
   abbrev same : List Part → ℕ → ℕ → ℕ
-  same ps k c = agreed (take k (leading ps)) (take k (solidsFrom seen c))
+  same ps k c = agreed (take k (leading ps)) (take k (solidsFrom (seen (s .line) l within) c))
 
   module _ (x : ℕ) (ps : List Part) (k c : ℕ) (inside : c ≤ l) where
-    same-byte : u c inside < l → (t : Bool) → sameLetter (byteAt (s .line) (u c inside)) x ≡ t
-        → same (Exact x ∷ ps) (suc k) c ≡ select t (suc (same ps k (u c inside + 1))) 0
+    same-byte : at c inside < l → (t : Bool) → sameLetter (byteAt (s .line) (at c inside)) x ≡ t
+        → same (Exact x ∷ ps) (suc k) c ≡ select t (suc (same ps k (at c inside + 1))) 0
     unfolding agreed leading
-    same-byte h t e = rw (met-byte c inside h, e)
+    same-byte h t e = rw (met-byte (s .line) l within c inside h, e)
 
-    same-end : l ≤ u c inside → same (Exact x ∷ ps) (suc k) c ≡ 0
+    same-end : l ≤ at c inside → same (Exact x ∷ ps) (suc k) c ≡ 0
     unfolding agreed leading
-    same-end h = rw (met-end c inside h)
+    same-end h = rw (met-end (s .line) l within c inside h)
 
     walk-exact : (o : Option ℕ) → exactly s l c x ≡ o → walk s below fin (Exact x ∷ ps) l c ≡ visit (after o (λ d. walk s below fin ps l d))
     unfolding walk
@@ -115,21 +128,21 @@ module _ (s : Scene) (below : Below) (fin : ℕ → Bool) (l : ℕ) (within : l 
     unfolding visited
     exact-stays p q = walk-exact x ps k c inside none p ∙ ap (λ (m : ℕ). visit (visited m (give []))) (sym q)
 
-    exact-goes : u c inside < l → sameLetter (byteAt (s .line) (u c inside)) x ≡ true → Fails ps k (u c inside + 1) → Fails (Exact x ∷ ps) (suc k) c
+    exact-goes : at c inside < l → sameLetter (byteAt (s .line) (at c inside)) x ≡ true → Fails ps k (at c inside + 1) → Fails (Exact x ∷ ps) (suc k) c
     unfolding visited
     exact-goes h e f =
-        walk-exact x ps k c inside (some (u c inside + 1)) (past-byte c inside h x true e) ∙ ap visit f
+        walk-exact x ps k c inside (some (at c inside + 1)) (past-byte c inside h x true e) ∙ ap visit f
         ∙ ap (λ (m : ℕ). visit (visited m (give []))) (sym (same-byte x ps k c inside h true e))
 
     exact-fails : same (Exact x ∷ ps) (suc k) c < suc (length (take k (leading ps)))
         → ((d : ℕ) → d ≤ l → same ps k d < length (take k (leading ps)) → Fails ps k d) → Fails (Exact x ∷ ps) (suc k) c
-    exact-fails h again = placed (decLt (u c inside) l)
+    exact-fails h again = placed (decLt (at c inside) l)
       where
-        placed : Dec (u c inside < l) → Fails (Exact x ∷ ps) (suc k) c
+        placed : Dec (at c inside < l) → Fails (Exact x ∷ ps) (suc k) c
         placed (no n) = exact-stays (past-end c inside (omega (arith, n)) x) (same-end x ps k c inside (omega (arith, n)))
         placed (yes n) =
-            elim (tested (sameLetter (byteAt (s .line) (u c inside)) x)) [
-              | inl e ↦ exact-goes n e (again (u c inside + 1) (omega arith) (omega (arith, same-byte x ps k c inside n true e)))
+            elim (tested (sameLetter (byteAt (s .line) (at c inside)) x)) [
+              | inl e ↦ exact-goes n e (again (at c inside + 1) (omega arith) (omega (arith, same-byte x ps k c inside n true e)))
               | inr e ↦ exact-stays (past-byte c inside n x false e) (same-byte x ps k c inside n false e)
             ]
 

@@ -1,0 +1,67 @@
+-- What a lead tells: where it has a rule fail, the rule fails, with so many visits; and where it says nothing, none.
+use mathlib.Core.Path.{_≡_, refl, sym, ap, _∙_}
+use mathlib.Core.Logic.{inl, inr}
+use mathlib.Core.Bool.{Bool, true, false}
+use mathlib.Core.List.{List, [], _∷_, map}
+use Prim.Native.Nat.{ℕ, zero, suc, _+_, _≤_, _<_}
+use native.Mathlib.Omega.{arith}
+use lib.ListN.{getD, take, drop}
+use Rattle.plain.specs.Choice.{select}
+use Rattle.plain.specs.Lists.{keepIf}
+use Rattle.token.specs.Token.{isSolid, lowered}
+use Rattle.token.proofs.Bytes.{lowered-below}
+use Rattle.defs.specs.Table.{tableFits, recordsIn, ruleParts}
+use Rattle.ruledef_map.specs.RuledefMap.{rulePrefix}
+use Rattle.sorting.proofs.Insertions.{every-none}
+use Rattle.readings.specs.Fail.{ahead, failing}
+use Rattle.leads.specs.Leads.{keyOf, keyAt, failingBy, LeadOf}
+use Rattle.leads.proofs.Keys.{isByte}
+use Rattle.leads.proofs.Bytes.{rule-bytes, rule-short}
+use Rattle.leads.proofs.Words.{failing-by, failing-none}
+
+-- ---- what the line has ahead are bytes
+
+Small : List ℕ → Type 0
+Small l = (j : ℕ) → getD l j 0 < 256
+
+small-take : (n : ℕ) (l : List ℕ) → Small l → Small (take n l)
+unfolding Small
+small-take zero l s j = omega arith
+small-take (suc n) [] s j = omega arith
+small-take (suc n) (x ∷ l) s zero = s 0
+small-take (suc n) (x ∷ l) s (suc j) = small-take n l (λ k. s (suc k)) j
+
+small-drop : (n : ℕ) (l : List ℕ) → Small l → Small (drop n l)
+unfolding Small
+small-drop zero l s j = s j
+small-drop (suc n) [] s j = omega arith
+small-drop (suc n) (x ∷ l) s j = small-drop n l (λ k. s (suc k)) j
+
+small-kept : (l : List ℕ) → Small l → Small (map lowered (keepIf isSolid l))
+unfolding Small keepIf
+small-kept [] s j = omega arith
+small-kept (x ∷ l) s j = go (isSolid x) j (small-kept l (λ k. s (suc k)))
+  where
+    go : (b : Bool) (j : ℕ) → ((k : ℕ) → getD (map lowered (keepIf isSolid l)) k 0 < 256) → getD (map lowered (select b (x ∷ keepIf isSolid l) (keepIf isSolid l))) j 0 < 256
+    go true zero ih = lowered-below x (s 0)
+    go true (suc j) ih = ih j
+    go false j ih = ih j
+
+small-ahead : (line : List ℕ) (l c : ℕ) → ((i : ℕ) → getD line i 0 < 256) → (j : ℕ) → getD (ahead line l c) j 0 < 256
+unfolding ahead Small
+small-ahead line l c s = small-take 4 _ (small-kept _ (small-drop c _ (small-take l line s)))
+
+-- ---- so a lead tells
+
+module _ (t line : List ℕ) (ok : tableFits t ≡ true) (bytes : (i : ℕ) → getD line i 0 < 256) (l c i : ℕ) (known : i < recordsIn t) where
+  pub lead-tells : {lead key m : ℕ} → LeadOf t i lead → key ≡ keyOf (ahead line l c) → m ≡ failingBy lead key → 0 < m → m ≡ failing (rulePrefix (ruleParts t i)) (ahead line l c)
+  unfolding keyAt keyOf
+  lead-tells {lead} {key} {m} (inl none) key-is is some = absurd (omega (arith, nothing))
+    where
+      nothing : m ≡ 0
+      nothing =
+          is ∙ ap (λ (w : ℕ). failingBy w key) none ∙ ap (failingBy 0) key-is
+          ∙ failing-by [] (ahead line l c) (every-none isByte) (small-ahead line l c bytes) (omega arith) ∙ failing-none (ahead line l c)
+  lead-tells {lead} {key} {m} (inr this) key-is is some =
+      is ∙ ap (λ (w : ℕ). failingBy w key) this ∙ ap (failingBy (keyOf (rulePrefix (ruleParts t i)))) key-is
+      ∙ failing-by (rulePrefix (ruleParts t i)) (ahead line l c) (rule-bytes t ok i known) (small-ahead line l c bytes) (rule-short t i)
