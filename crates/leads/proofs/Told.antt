@@ -49,7 +49,7 @@ small-kept (x ∷ l) s j = go (isSolid x) j (small-kept l (λ k. s (suc k)))
 
 small-ahead : (line : List ℕ) (l c : ℕ) → ((i : ℕ) → getD line i 0 < 256) → (j : ℕ) → getD (ahead line l c) j 0 < 256
 unfolding ahead Small
-small-ahead line l c s = small-take 4 _ (small-kept _ (small-drop c _ (small-take l line s)))
+small-ahead line l c s = small-take 4 (map lowered (keepIf isSolid (drop c (take l line)))) (small-kept (drop c (take l line)) (small-drop c (take l line) (small-take l line s)))
 
 -- ---- so a lead tells
 
