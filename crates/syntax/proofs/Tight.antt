@@ -26,7 +26,7 @@ use Rattle.syntax.proofs.walker.least.Reads as least
 
 -- what the cases of an answer say tells them apart
 
-steps-apart : (r s : Step) → stepSays r ≡ stepSays s → r ≡ s
+pub steps-apart : (r s : Step) → stepSays r ≡ stepSays s → r ≡ s
 steps-apart (Step.Past v) (Step.Past w) e = ap (λ (p : Bool × Walker). Step.Past (p .1)) e
 steps-apart (Step.Past v) (Step.Stayed w) e = absurd (true≢false (ap (λ (p : Bool × Walker). p .0) e))
 steps-apart (Step.Stayed v) (Step.Past w) e = absurd (false≢true (ap (λ (p : Bool × Walker). p .0) e))

@@ -1,0 +1,66 @@
+// The useful places of a line, worked out once for a call, and the moves of `src/syntax/walker.rs` that skip whitespace by them.
+// The Rust walks over the whitespace at each move. Nothing is refused: what is lent is a line of at most 120 bytes, its own
+// places, and a walker that stands within it.
+use syntax::walker::Step;
+use syntax::walker::Walker;
+use syntax::walker::least;
+ghost use mathlib.Core.Path.{_≡_};
+ghost use Prim.Native.Nat.{_≤_};
+ghost use lib.ListN.{length};
+ghost use Rattle.syntax.specs.Walker.{held, useful, stepSays, expectChar};
+ghost use Rattle.useful.specs.Useful.{usefulPlaces, Lent};
+
+// As many as the longest line has, its end included.
+pub const PLACES: usize = 121;
+
+// The useful place of each place of the line, its end included; 0 past that. Worked out from the line's end to its beginning.
+pub fn useful_places(line: &[u8]) -> [u8; PLACES]
+    requires { ⌜ length (now line) ≤ 120 ⌝ }
+    ensures answers { λ r. ⌜ r ≡ usefulPlaces (now (line .entry)) ⌝ }
+{
+    let n = line.len();
+    let mut places = [0u8; PLACES];
+    places[n] = n as u8;
+    let mut next = n;
+    let mut at = n;
+    while 0 < at {
+        at -= 1;
+        let b = line[at];
+        if !token::is_whitespace(b) {
+            next = at;
+        }
+        places[at] = next as u8;
+    }
+    places
+}
+
+// The walker's useful place. The line's places know no limit: under one it is the lesser of the two.
+pub fn next_useful_index(line: &[u8], places: &[u8; PLACES], walker: Walker) -> usize
+    requires { ⌜ Lent (now line) (now places) ⌝ }
+    requires { ⌜ walker .cursor ≤ walker .limit ⌝ }
+    requires { ⌜ walker .limit ≤ length (now line) ⌝ }
+    ensures answers { λ r. ⌜ r ≡ useful (now (line .entry)) (held (now (line .entry)) walker) ⌝ }
+{
+    let cursor = walker.cursor;
+    let place = places[cursor] as usize;
+    least(place, walker.limit)
+}
+
+// The walker past the byte at the useful place, if that stands below the limit and is the wanted one, case ignored.
+pub fn maybe_expect_char(line: &[u8], places: &[u8; PLACES], walker: Walker, wanted: u8) -> Step
+    requires { ⌜ Lent (now line) (now places) ⌝ }
+    requires { ⌜ walker .cursor ≤ walker .limit ⌝ }
+    requires { ⌜ walker .limit ≤ length (now line) ⌝ }
+    ensures answers { λ r. ⌜ stepSays r ≡ expectChar (now (line .entry)) wanted (held (now (line .entry)) walker) ⌝ }
+{
+    let limit = walker.limit;
+    let at = next_useful_index(line, places, walker);
+    if at < limit {
+        let b = line[at];
+        if token::eq_ignore_ascii_case(b, wanted) {
+            let cursor = at + 1;
+            return Step::Past(Walker { cursor, limit });
+        }
+    }
+    Step::Stayed(walker)
+}
