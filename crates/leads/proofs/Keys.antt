@@ -67,24 +67,58 @@ bound-next (suc (suc zero)) l k h = omega arith
 bound-next (suc (suc (suc zero))) l k h = omega arith
 bound-next (suc (suc (suc (suc n)))) l k h = absurd (omega arith)
 
--- the parts from `at` to before `to` give the rest of the key
-pub record Filling (t : List ℕ) (to whole at left key : ℕ) : Type 0 where
+-- these bytes, and zeros after them, give the rest of the key
+pub record Filling (rest : List ℕ) (whole left key : ℕ) : Type 0 where
   pub few : left ≤ 4
   pub small : key < bound left
-  pub is : filled key left (leading (partsBetween t at to)) ≡ whole
+  pub is : filled key left rest ≡ whole
 
-pub filling-none : (t : List ℕ) (from to : ℕ) → Filling t to (keyOf (rulePrefix (partsBetween t from to))) from 4 0
-unfolding bound rulePrefix
-filling-none t from to = record {
-  few = omega arith;
-  small = omega arith;
-  is = filled-key (leading (partsBetween t from to));
-}
+pub filling-start : (p : List ℕ) → Filling p (keyOf (take 4 p)) 4 0
+unfolding bound
+filling-start p = record { few = omega arith; small = omega arith; is = filled-key p }
 
-pub filling-all : {t : List ℕ} {to whole at left key : ℕ} → Filling t to whole at left key → left ≤ 0 → (key ≡ whole) × (key < 4294967296)
+pub filling-all : {rest : List ℕ} {whole left key : ℕ} → Filling rest whole left key → left ≤ 0 → (key ≡ whole) × (key < 4294967296)
 unfolding filled
 filling-all {left = zero} f h = (f .is, bound-none (f .small))
 filling-all {left = suc n} f h = absurd (omega arith)
+
+filled-none : (key n : ℕ) → filled key (suc n) [] ≡ filled (key * 256) n []
+unfolding filled
+filled-none key n = ap (λ (k : ℕ). filled k n []) (add-zero (key * 256))
+
+filled-next : (key n b : ℕ) (p : List ℕ) → filled key (suc n) (b ∷ p) ≡ filled (key * 256 + b) n p
+unfolding filled
+filled-next key n b p = refl
+
+module _ {rest : List ℕ} {whole left key : ℕ} (before : Filling rest whole left key) (more : 0 < left) where
+  one-less : left ≡ suc (left - 1)
+  one-less = omega arith
+
+  small-now : key < bound (suc (left - 1))
+  small-now = subst (λ (n : ℕ). key < bound n) one-less (before .small)
+
+  is-now : filled key (suc (left - 1)) rest ≡ whole
+  is-now = ap (λ (n : ℕ). filled key n rest) (sym one-less) ∙ before .is
+
+  pub filling-fits : key < 16777216
+  filling-fits = bound-fits (left - 1) small-now
+
+  -- no byte is left
+  pub filling-none : {rest′ : List ℕ} → rest ≡ [] → rest′ ≡ [] → Filling rest′ whole (left - 1) (key * 256)
+  filling-none e e′ = record {
+    few = omega (arith, before .few);
+    small = omega (arith, bound-next {b = 0} (left - 1) (omega (arith, before .few)) (omega arith) small-now);
+    is = ap (filled (key * 256) (left - 1)) e′ ∙ sym (filled-none key (left - 1)) ∙ ap (filled key (suc (left - 1))) (sym e) ∙ is-now;
+  }
+
+  pub filling-byte : {rest′ : List ℕ} {byte : ℕ} → byte < 256 → rest ≡ byte ∷ rest′ → Filling rest′ whole (left - 1) (key * 256 + byte)
+  filling-byte {rest′} {byte} h e = record {
+    few = omega (arith, before .few);
+    small = bound-next (left - 1) (omega (arith, before .few)) h small-now;
+    is = sym (filled-next key (left - 1) byte rest′) ∙ ap (filled key (suc (left - 1))) (sym e) ∙ is-now;
+  }
+
+-- ---- a rule's parts
 
 pub leading-none : leading [] ≡ []
 unfolding leading
@@ -105,66 +139,39 @@ pub leading-exact : (w : ℕ) (ps : List Part) → w < 256 → leading (partOf w
 unfolding partOf leading
 leading-exact w ps h = rw (lt-ltb w 256 h)
 
-filled-none : (key n : ℕ) → filled key (suc n) [] ≡ filled (key * 256) n []
-unfolding filled
-filled-none key n = ap (λ (k : ℕ). filled k n []) (add-zero (key * 256))
+-- the parts from `at` to before `to` give the rest of the key
+pub record PartsFilling (t : List ℕ) (to whole at left key : ℕ) : Type 0 where
+  pub rest : Filling (leading (partsBetween t at to)) whole left key
 
-filled-next : (key n b : ℕ) (p : List ℕ) → filled key (suc n) (b ∷ p) ≡ filled (key * 256 + b) n p
-unfolding filled
-filled-next key n b p = refl
+pub parts-start : (t : List ℕ) (from to : ℕ) → PartsFilling t to (keyOf (rulePrefix (partsBetween t from to))) from 4 0
+unfolding rulePrefix
+parts-start t from to = record { rest = filling-start (leading (partsBetween t from to)) }
 
 module _
     {t : List ℕ}
     {to whole at left key : ℕ}
-    (before : Filling t to whole at left key)
+    (before : PartsFilling t to whole at left key)
     (fits : to ≤ length t)
     (more : 0 < left)
   where
-    one-less : left ≡ suc (left - 1)
-    one-less = omega arith
-
-    small-now : key < bound (suc (left - 1))
-    small-now = subst (λ (n : ℕ). key < bound n) one-less (before .small)
-
-    is-now : filled key (suc (left - 1)) (leading (partsBetween t at to)) ≡ whole
-    is-now = ap (λ (n : ℕ). filled key n (leading (partsBetween t at to))) (sym one-less) ∙ before .is
-
-    pub filling-fits : key < 16777216
-    filling-fits = bound-fits (left - 1) small-now
-
-    -- no byte is left of the prefix
-    ended :
-        {at′ : ℕ} → leading (partsBetween t at to) ≡ [] → leading (partsBetween t at′ to) ≡ [] →
-        Filling t to whole at′ (left - 1) (key * 256)
-    ended e e′ = record {
-      few = omega (arith, before .few);
-      small = omega (arith, bound-next {b = 0} (left - 1) (omega (arith, before .few)) (omega arith) small-now);
-      is =
-          ap (filled (key * 256) (left - 1)) e′
-          ∙ sym (filled-none key (left - 1))
-          ∙ ap (filled key (suc (left - 1))) (sym e)
-          ∙ is-now;
-    }
-
-    pub filling-end : to ≤ at → Filling t to whole at (left - 1) (key * 256)
-    filling-end h = let e = ap leading (parts-none t at to fits h) ∙ leading-none in ended e e
+    pub parts-end : to ≤ at → PartsFilling t to whole at (left - 1) (key * 256)
+    parts-end h = let e = ap leading (parts-none t at to fits h) ∙ leading-none in record { rest = filling-none (before .rest) more e e }
 
     module _ {word : ℕ} (here : at < to) (read : word ≡ getD t at 0) where
-      pub filling-other : 256 ≤ word → Filling t to whole to (left - 1) (key * 256)
+      pub parts-other : 256 ≤ word → PartsFilling t to whole to (left - 1) (key * 256)
       unfolding wordAt
-      filling-other h =
-          ended (ap leading (parts-next t at to fits here) ∙ leading-other (wordAt t at) (partsBetween t (at + 1) to) (omega (arith, read)))
-          (ap leading (parts-none t to to fits (omega arith)) ∙ leading-none)
+      parts-other h = record {
+        rest =
+            filling-none (before .rest) more (ap leading (parts-next t at to fits here) ∙ leading-other (wordAt t at) (partsBetween t (at + 1) to) (omega (arith, read)))
+            (ap leading (parts-none t to to fits (omega arith)) ∙ leading-none);
+      }
 
-      pub filling-exact : {byte : ℕ} → word < 256 → byte ≡ lowered word → Filling t to whole (at + 1) (left - 1) (key * 256 + byte)
+      pub parts-exact : {byte : ℕ} → word < 256 → byte ≡ lowered word → PartsFilling t to whole (at + 1) (left - 1) (key * 256 + byte)
       unfolding wordAt
-      filling-exact {byte} h low = record {
-        few = omega (arith, before .few);
-        small = bound-next (left - 1) (omega (arith, before .few)) (omega (arith, low, lowered-below word h)) small-now;
-        is =
-            sym (filled-next key (left - 1) byte (leading (partsBetween t (at + 1) to)))
-            ∙ ap (filled key (suc (left - 1))) (sym (ap leading (parts-next t at to fits here) ∙ leading-exact (wordAt t at) (partsBetween t (at + 1) to) (omega (arith, read)) ∙ ap (λ (n : ℕ). n ∷ leading (partsBetween t (at + 1) to)) (ap lowered (sym read) ∙ sym low)))
-            ∙ is-now;
+      parts-exact {byte} h low = record {
+        rest =
+            filling-byte (before .rest) more (omega (arith, low, lowered-below word h))
+            (ap leading (parts-next t at to fits here) ∙ leading-exact (wordAt t at) (partsBetween t (at + 1) to) (omega (arith, read)) ∙ ap (λ (n : ℕ). n ∷ leading (partsBetween t (at + 1) to)) (ap lowered (sym read) ∙ sym low));
       }
 
 -- ---- one key, one prefix

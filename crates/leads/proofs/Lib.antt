@@ -1,4 +1,5 @@
 pub mod Keys
+pub mod Ahead
 pub mod Words
 pub mod Laying
 pub mod Nested

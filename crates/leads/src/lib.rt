@@ -3,6 +3,8 @@
 // Nothing is refused: the table is an accepted one.
 use defs::ruledef;
 use places;
+use syntax::walker::Walker;
+use useful;
 ghost use mathlib.Core.Path.{_≡_};
 ghost use mathlib.Core.Bool.{true};
 ghost use Prim.Native.Nat.{_≤_, _<_, _%_};
@@ -11,6 +13,8 @@ ghost use lib.ListN.{length};
 ghost use Rattle.plain.specs.Choice.{select};
 ghost use Rattle.defs.specs.Table.{tableFits, recordsIn, partsBetween};
 ghost use Rattle.ruledef_map.specs.RuledefMap.{rulePrefix};
+ghost use Rattle.useful.specs.Useful.{Lent};
+ghost use Rattle.readings.specs.Fail.{ahead};
 ghost use Rattle.leads.specs.Leads.{keyOf, failingBy, Led, Among, Between, Nested, ListAsked, NestAsked};
 
 // A key's bytes, and what a byte weighs against the next.
@@ -51,6 +55,32 @@ pub fn prefix_key(table: &[u16], from: usize, to: usize) -> usize
         }
     }
     key
+}
+
+// What the line has ahead of a walker, as a number: its first four non-whitespace bytes from the cursor on and below the limit.
+pub fn line_key(line: &[u8], places: &[u8; useful::PLACES], walker: Walker) -> u32
+    requires { ⌜ Lent (now line) (now places) ⌝ }
+    requires { ⌜ walker .cursor ≤ walker .limit ⌝ }
+    requires { ⌜ walker .limit ≤ length (now line) ⌝ }
+    ensures answers { λ r. ⌜ r ≡ keyOf (ahead (now (line .entry)) (walker .limit) (walker .cursor)) ⌝ }
+{
+    let limit = walker.limit;
+    let mut cursor = walker.cursor;
+    let mut key: usize = 0;
+    let mut left: usize = BYTES;
+    while 0 < left {
+        left -= 1;
+        key = key * BASE;
+        let here = Walker { cursor, limit };
+        let at = useful::next_useful_index(line, places, here);
+        if at < limit {
+            key += token::to_ascii_lowercase(line[at]) as usize;
+            cursor = at + 1;
+        } else {
+            cursor = limit;
+        }
+    }
+    key as u32
 }
 
 // The visits, unless the key's last byte is 0: then the rule's prefix has ended, and the rule does not fail there.

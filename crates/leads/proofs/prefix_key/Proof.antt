@@ -5,24 +5,24 @@ use native.Mathlib.Omega.{arith}
 use Rattle.defs.specs.Table.{partsBetween}
 use Rattle.ruledef_map.specs.RuledefMap.{rulePrefix}
 use Rattle.leads.specs.Leads.{keyOf}
-use Rattle.leads.proofs.Keys.{Filling, filling-none, filling-fits, filling-end, filling-other, filling-exact, filling-all}
+use Rattle.leads.proofs.Keys.{PartsFilling, parts-start, filling-fits, parts-end, parts-other, parts-exact, filling-all}
 use Rattle.leads.proofs.prefix_key.Statement.{statement}
 use Rattle.leads.proofs.prefix_key.Tie as tie
 
 abbrev Inv-loop : tie.InvT-loop
-Inv-loop table from to key₀ left₀ at₀ key left at = Filling table to (keyOf (rulePrefix (partsBetween table from to))) at left key
+Inv-loop table from to key₀ left₀ at₀ key left at = PartsFilling table to (keyOf (rulePrefix (partsBetween table from to))) at left key
 
 abbrev μ-loop : tie.MeasureT-loop
 μ-loop table from to key₀ left₀ at₀ key left at = left
 
 loop-holds : tie.Need-loop-holds Inv-loop μ-loop
-loop-holds c = filling-none _ _ _
+loop-holds c = parts-start _ _ _
 
 sub-left : tie.Need-sub-left Inv-loop μ-loop
 sub-left c = search needs
 
 mul-key : tie.Need-mul-key Inv-loop μ-loop
-mul-key c = omega (arith, filling-fits (c .before .loop .inv) (c .before .before .before .pre) (c .loop-test .taken))
+mul-key c = omega (arith, filling-fits (c .before .loop .inv .rest) (c .loop-test .taken))
 
 mul-word : tie.Need-mul-word Inv-loop μ-loop
 mul-word c = search needs
@@ -43,28 +43,28 @@ cast-key : tie.Need-cast-key Inv-loop μ-loop
 cast-key c = search needs
 
 add-key : tie.Need-add-key Inv-loop μ-loop
-add-key c = omega (arith, filling-fits (c .before .before .before .before .before .loop .inv) (c .before .before .before .before .before .before .before .pre) (c .before .before .before .before .loop-test .taken), c .to-ascii-lowercase .ok)
+add-key c = omega (arith, filling-fits (c .before .before .before .before .before .loop .inv .rest) (c .before .before .before .before .loop-test .taken), c .to-ascii-lowercase .ok)
 
 loop-less : tie.Need-loop-less Inv-loop μ-loop
 loop-less c = search needs
 
 loop-again : tie.Need-loop-again Inv-loop μ-loop
-loop-again c = filling-exact (c .before .before .before .before .before .loop .inv) (c .before .before .before .before .before .before .before .pre) (c .before .before .before .before .loop-test .taken) (c .before .before .before .if1 .taken) refl (c .before .if2 .taken) (c .to-ascii-lowercase .ensures)
+loop-again c = parts-exact (c .before .before .before .before .before .loop .inv) (c .before .before .before .before .before .before .before .pre) (c .before .before .before .before .loop-test .taken) (c .before .before .before .if1 .taken) refl (c .before .if2 .taken) (c .to-ascii-lowercase .ensures)
 
 loop-less-2 : tie.Need-loop-less-2 Inv-loop μ-loop
 loop-less-2 c = search needs
 
 loop-again-2 : tie.Need-loop-again-2 Inv-loop μ-loop
-loop-again-2 c = filling-other (c .before .before .before .before .loop .inv) (c .before .before .before .before .before .before .pre) (c .before .before .before .loop-test .taken) (c .before .before .if1 .taken) refl (c .if2 .left)
+loop-again-2 c = parts-other (c .before .before .before .before .loop .inv) (c .before .before .before .before .before .before .pre) (c .before .before .before .loop-test .taken) (c .before .before .if1 .taken) refl (c .if2 .left)
 
 loop-less-3 : tie.Need-loop-less-3 Inv-loop μ-loop
 loop-less-3 c = search needs
 
 loop-again-3 : tie.Need-loop-again-3 Inv-loop μ-loop
-loop-again-3 c = filling-end (c .before .before .loop .inv) (c .before .before .before .before .pre) (c .before .loop-test .taken) (c .if1 .left)
+loop-again-3 c = parts-end (c .before .before .loop .inv) (c .before .before .before .before .pre) (c .before .loop-test .taken) (c .if1 .left)
 
 returns : tie.Need-returns Inv-loop μ-loop
-returns c = filling-all (c .before .loop .inv) (c .loop-test .left)
+returns c = filling-all (c .before .loop .inv .rest) (c .loop-test .left)
 
 pub prefix-key-spec : {M : Type 1} → statement M
 prefix-key-spec =
