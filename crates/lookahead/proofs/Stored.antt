@@ -17,6 +17,7 @@ use Rattle.syntax.specs.declared.walker.Walker.{Walker}
 use Rattle.syntax.specs.Cut.{cutSays}
 use Rattle.syntax.specs.declared.walker.Lookahead.{Lookahead}
 use Rattle.syntax.specs.declared.walker.Lookahead.the-variants.{At, Nothing}
+use Rattle.syntax.proofs.Useful.{InLine, held-is-within}
 use Rattle.defs.specs.declared.ruledef.Part.{Part}
 use Rattle.extents.specs.Sheet.{freeEnd, greedyEnd, endOf}
 use Rattle.extents.specs.declared.Extent.{Extent}
@@ -54,7 +55,11 @@ module _ (n : ℕ) (es : List ℕ) where
 
 -- ---- the search for a duplicate
 
--- a walker moved to an end is the one at that end under the same limit
+-- a walker moved to an end is within its line, and is the one at that end under the same limit
+pub moved-within : (line : List ℕ) (w there : Walker) (end : ℕ) → there ≡ movedTo line end (held line w) → InLine line there
+unfolding movedTo
+moved-within line w there end = held-is-within line _ there
+
 pub moved-held : (line : List ℕ) (w there : Walker) (end : ℕ) → there ≡ movedTo line end (held line w) → held line there ≡ walkerAt line (w .limit) end
 unfolding movedTo held
 moved-held line w there end is = ap (held line) is ∙ same

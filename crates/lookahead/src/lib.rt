@@ -1,18 +1,21 @@
 // The choices of a parameter's step: the lookahead character, the cut, an expression's candidate ends, and the limits
 // under which a nested step tries its ruleset. From `src/asm/matcher/mod.rs`: `find_lookahead_char`,
 // `parse_with_lookahead`, `parse_with_and_without_lookahead`, whose parser becomes plain calls, and `remove_duplicates` as
-// `match_with_expr` uses it. Nothing is refused: any words, line, sheet, walker and places.
+// `match_with_expr` uses it. Nothing is refused: any words, line, sheet, walker and places; for the ends the line comes with its
+// own useful places.
 use defs::ruledef;
 use defs::ruledef::Part;
 use extents::Extent;
 use syntax::walker::Lookahead;
 use syntax::walker::Walker;
+use useful::PLACES;
 ghost use mathlib.Core.Path.{_≡_};
 ghost use mathlib.Core.List.{List, []};
 ghost use Prim.Native.Nat.{ℕ, _≤_, _<_};
 ghost use lib.ListN.{length, take};
 ghost use Rattle.syntax.specs.Walker.{useful};
 ghost use Rattle.syntax.specs.Cut.{cutSays};
+ghost use Rattle.useful.specs.Useful.{Lent};
 ghost use Rattle.defs.specs.Table.{partsBetween};
 ghost use Rattle.extents.specs.Sheet.{endOf, freeEnd};
 ghost use Rattle.readings.specs.Scene.{walkerAt, sceneOf};
@@ -79,23 +82,25 @@ pub fn find_cut(table: &[u16], line: &[u8], walker: Walker, at: usize, end: usiz
     }
 }
 
-// The useful place of an end under the walker's limit.
-fn useful_place(line: &[u8], walker: Walker, end: usize) -> usize
+// The useful place of an end under the walker's limit, by the useful places of the line.
+fn useful_place(line: &[u8], places: &[u8; PLACES], walker: Walker, end: usize) -> usize
+    requires { ⌜ Lent (now line) (now places) ⌝ }
     ensures { λ r. ⌜ r ≡ useful (now (line .entry)) (walkerAt (now (line .entry)) (walker .limit) end) ⌝ }
 {
     let there = walker.set_cursor_index(line, end);
-    there.next_useful_index(line)
+    useful::next_useful_index(line, places, there)
 }
 
 // Whether one of the ends has the same useful place under the limit.
-fn is_duplicate(line: &[u8], walker: Walker, ends: Ends, end: usize) -> bool
+fn is_duplicate(line: &[u8], useful: &[u8; PLACES], walker: Walker, ends: Ends, end: usize) -> bool
+    requires { ⌜ Lent (now line) (now useful) ⌝ }
     requires { ⌜ ends .count ≤ 3 ⌝ }
     ensures { λ r. ⌜ r ≡ anySame (sameEnd (now (line .entry)) (walker .limit)) (take (ends .count) (ends .places)) end ⌝ }
 {
-    let place = useful_place(line, walker, end);
+    let place = useful_place(line, useful, walker, end);
     let mut i: usize = 0;
     while i < ends.count {
-        if useful_place(line, walker, ends.places[i]) == place {
+        if useful_place(line, useful, walker, ends.places[i]) == place {
             return true;
         }
         i += 1;
@@ -105,7 +110,8 @@ fn is_duplicate(line: &[u8], walker: Walker, ends: Ends, end: usize) -> bool
 
 // One candidate more: it stays unless one before it has the same useful place. Those that did not stay need no look, since
 // one that stayed has their useful place.
-fn add_end(line: &[u8], walker: Walker, ends: Ends, extent: Extent) -> Ends
+fn add_end(line: &[u8], useful: &[u8; PLACES], walker: Walker, ends: Ends, extent: Extent) -> Ends
+    requires { ⌜ Lent (now line) (now useful) ⌝ }
     requires { ⌜ ends .count < 3 ⌝ }
     ensures { λ r. ⌜ ((es : List ℕ) → ends ≡ heldEnds es → r ≡ heldEnds (added (sameEnd (now (line .entry)) (walker .limit)) es (endOf extent))) ⌝ }
 {
@@ -113,7 +119,7 @@ fn add_end(line: &[u8], walker: Walker, ends: Ends, extent: Extent) -> Ends
         Extent::Ends(end) => end,
         Extent::Nothing => return ends,
     };
-    if is_duplicate(line, walker, ends, end) {
+    if is_duplicate(line, useful, walker, ends, end) {
         return ends;
     }
     let count = ends.count;
@@ -140,11 +146,13 @@ fn free_to_cut(sheet: &[u8], n: usize, c: usize, cut: Lookahead) -> Extent
 pub fn find_ends(
     table: &[u16],
     line: &[u8],
+    useful: &[u8; PLACES],
     sheet: &[u8],
     walker: Walker,
     at: usize,
     end: usize,
 ) -> Ends
+    requires { ⌜ Lent (now line) (now useful) ⌝ }
     ensures answers { λ r. ⌜ r ≡ heldEnds (ends (sceneOf (now (table .entry)) (now (line .entry)) (now (sheet .entry))) (walker .limit) (walker .cursor) (partsBetween (now (table .entry)) at end)) ⌝ }
 {
     let n = line.len();
@@ -154,10 +162,10 @@ pub fn find_ends(
         count: 0,
         places: [0; 3],
     };
-    let whole = add_end(line, walker, none, extents::free(sheet, n, c, l));
+    let whole = add_end(line, useful, walker, none, extents::free(sheet, n, c, l));
     let cut = find_cut(table, line, walker, at, end);
-    let both = add_end(line, walker, whole, free_to_cut(sheet, n, c, cut));
-    add_end(line, walker, both, extents::greedy(sheet, n, c, l))
+    let both = add_end(line, useful, walker, whole, free_to_cut(sheet, n, c, cut));
+    add_end(line, useful, walker, both, extents::greedy(sheet, n, c, l))
 }
 
 // The limits under which a nested step tries its ruleset: l, and then the cut if there is one.

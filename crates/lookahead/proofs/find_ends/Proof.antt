@@ -25,13 +25,13 @@ free-to-cut-requires : tie.Need-free-to-cut-requires
 free-to-cut-requires c κs = search needs
 
 add-end-requires-2 : tie.Need-add-end-requires-2
-add-end-requires-2 c κs = room-two _ _ _ (c .before .before .add-end .ensures [] held-none)
+add-end-requires-2 c κs = (search needs, room-two _ _ _ (c .before .before .add-end .ensures [] held-none))
 
 greedy-requires : tie.Need-greedy-requires
 greedy-requires c κs = search needs
 
 add-end-requires-3 : tie.Need-add-end-requires-3
-add-end-requires-3 c κs = room-three _ _ _ _ (c .before .add-end2 .ensures _ (c .before .before .before .before .add-end .ensures [] held-none))
+add-end-requires-3 c κs = (search needs, room-three _ _ _ _ (c .before .add-end2 .ensures _ (c .before .before .before .before .add-end .ensures [] held-none)))
 
 returns : tie.Need-returns
 returns c = c .add-end3 .ensures _ (c .before .before .add-end2 .ensures _ (c .before .before .before .before .before .add-end .ensures [] held-none)) ∙ ends-held _ _ _ _ _ _ (c .before .before .before .before .before .before .before .get-cursor-limit .ensures) (c .before .before .before .before .before .before .before .before .get-cursor-index .ensures) _ (c .before .before .before .before .before .before .free .result) (c .before .before .before .free-to-cut .result) (c .before .greedy .result) (c .before .before .before .before .find-cut .result) (c .before .before .before .before .before .before .free .ensures) (c .before .before .before .before .find-cut .ensures) (c .before .before .before .free-to-cut .ensures) (c .before .greedy .ensures)

@@ -11,10 +11,10 @@ use Rattle.lookahead.proofs.is_duplicate.Statement.{statement}
 use Rattle.lookahead.proofs.is_duplicate.Tie as tie
 
 abbrev Inv-loop : tie.InvT-loop
-Inv-loop line walker end ends place i₀ i = anySame (sameEnd line (walker .limit)) (slice i (ends .count) (ends .places)) end ≡ anySame (sameEnd line (walker .limit)) (slice 0 (ends .count) (ends .places)) end
+Inv-loop line useful walker end ends place i₀ i = anySame (sameEnd line (walker .limit)) (slice i (ends .count) (ends .places)) end ≡ anySame (sameEnd line (walker .limit)) (slice 0 (ends .count) (ends .places)) end
 
 abbrev μ-loop : tie.MeasureT-loop
-μ-loop line walker end ends place i₀ i = ends .count - i
+μ-loop line useful walker end ends place i₀ i = ends .count - i
 
 useful-place-requires : tie.Need-useful-place-requires Inv-loop μ-loop
 useful-place-requires c κs = search needs
@@ -32,7 +32,7 @@ useful-place-requires-2 : tie.Need-useful-place-requires-2 Inv-loop μ-loop
 useful-place-requires-2 c κs = search needs
 
 returns : tie.Need-returns Inv-loop μ-loop
-returns c = let small : c .before .before .before .before .loop .i < 3 = omega arith in let room : c .before .before .before .before .loop .i < length (c .before .before .before .before .before .before .before .args .t3 .places) = search needs in any-here _ _ _ _ _ _ (c .before .before .before .before .loop .inv) (c .before .before .before .loop-test .taken) room (place-same _ _ _ _ _ _ (c .before .useful-place2 .ensures) (c .before .before .before .before .before .useful-place .ensures) (c .if1 .taken))
+returns c = let small : c .before .before .before .before .loop .i < 3 = omega arith in let room : c .before .before .before .before .loop .i < length (c .before .before .before .before .before .before .before .args .t4 .places) = search needs in any-here _ _ _ _ _ _ (c .before .before .before .before .loop .inv) (c .before .before .before .loop-test .taken) room (place-same _ _ _ _ _ _ (c .before .useful-place2 .ensures) (c .before .before .before .before .before .useful-place .ensures) (c .if1 .taken))
 
 add-i : tie.Need-add-i Inv-loop μ-loop
 add-i c = search needs
@@ -41,7 +41,7 @@ loop-less : tie.Need-loop-less Inv-loop μ-loop
 loop-less c = search needs
 
 loop-again : tie.Need-loop-again Inv-loop μ-loop
-loop-again c = let small : c .before .before .before .before .loop .i < 3 = omega arith in let room : c .before .before .before .before .loop .i < length (c .before .before .before .before .before .before .before .args .t3 .places) = search needs in any-later _ _ _ _ _ _ (c .before .before .before .before .loop .inv) (c .before .before .before .loop-test .taken) room (place-other _ _ _ _ _ _ (c .before .useful-place2 .ensures) (c .before .before .before .before .before .useful-place .ensures) (c .if1 .left))
+loop-again c = let small : c .before .before .before .before .loop .i < 3 = omega arith in let room : c .before .before .before .before .loop .i < length (c .before .before .before .before .before .before .before .args .t4 .places) = search needs in any-later _ _ _ _ _ _ (c .before .before .before .before .loop .inv) (c .before .before .before .loop-test .taken) room (place-other _ _ _ _ _ _ (c .before .useful-place2 .ensures) (c .before .before .before .before .before .useful-place .ensures) (c .if1 .left))
 
 returns-2 : tie.Need-returns-2 Inv-loop μ-loop
 returns-2 c = any-none _ _ _ _ _ _ (c .before .loop .inv) (c .loop-test .left)
