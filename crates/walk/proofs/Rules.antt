@@ -21,8 +21,13 @@ use Rattle.defs.proofs.Words.{parts-whole}
 use Rattle.readings.specs.Scene.{Scene, sceneOf}
 use Rattle.readings.specs.Plan.{Plan, stop, run, each, mapped}
 use Rattle.readings.specs.Walk.{Found, Match, named, walk, rulesetWalk, under, depths, limits}
+use Rattle.readings.specs.Fail.{ahead, failing}
+use Rattle.readings.proofs.Fails.{fails-done, fails-stop}
 use Rattle.readings.proofs.Packed.{lawful}
 use Rattle.readings.proofs.Records.{rules-range, rule-parts, begins-order, few-records, span-within}
+use Rattle.ruledef_map.specs.RuledefMap.{rulePrefix}
+use Rattle.leads.specs.Leads.{keyOf, failingBy, Leads}
+use Rattle.leads.proofs.Told.{lead-tells}
 use Rattle.lookahead.specs.declared.Limits.{Limits}
 use Rattle.lookahead.specs.Held.{heldLimits}
 use Rattle.lookahead.proofs.Choices.{limits-few, limits-within, sheet-free-limits}
@@ -35,9 +40,11 @@ use Rattle.walk.specs.declared.Place.{Place}
 use Rattle.walk.specs.declared.Walked.{Walked}
 use Rattle.walk.specs.declared.Walked.the-variants.{Done, Stopped}
 use Rattle.walk.specs.declared.Refusal.{Refusal}
+use Rattle.walk.specs.declared.Refusal.the-variants.{Spent}
 use Rattle.walk.specs.Met.{finishes, partsPlan, rulePlan, deeper, ran, Ready, toCome, Stands, Made, numberOf, Left}
 use Rattle.walk.proofs.Outcomes.{mapped-done, mapped-stop}
 use Rattle.walk.proofs.Held.{held-at, held-is, member-at}
+use Rattle.walk.proofs.Logs.{made-none}
 use Rattle.walk.proofs.Loops.{Did, did-none, index-end, index-more, index-stop}
 use Rattle.walk.proofs.Turned.{reached, refused}
 
@@ -100,16 +107,55 @@ module _ {t line sheet starts store₀ : List ℕ} {place : Place} {w : Walker} 
     many : n ≡ beginsAt t (group + 1) - beginsAt t group
     many = n-is ∙ omega (arith, begins, start-at (group + 1) (omega arith))
 
-    module _ (k : ℕ) (h : k < n) (parts : Parts) (span : parts ≡ ruleSpan t (begin + k)) (inner : Walker) (from : inner .cursor ≤ inner .limit) (within : inner .limit ≤ w .limit) where
+    module _ (k : ℕ) (h : k < n) where
       record-below : begin + k < recordsIn t
       record-below = omega (arith, begins, many, begins-within t (group + 1), begins-order t line sheet (ready .table) group)
 
+      -- its place among the leads
+      pub lead-there : begin + k < 512
+      lead-there = omega (arith, record-below, few-records t line sheet (ready .table))
+
+      next-rule : k ≡ getD (range 0 n) k 0
+      next-rule = sym (range-at 0 n k 0 h ∙ omega arith)
+
+      in-range : k < length (range 0 n)
+      in-range = omega (arith, range-length 0 n)
+
+      parts-named : ruleParts t (begin + k) ≡ s .parts group k
+      parts-named = ap (λ (b : ℕ). ruleParts t (b + k)) begins ∙ sym (rule-parts t line sheet (ready .table) group k (omega (arith, many)))
+
+      -- a rule that fails in its leading exact parts, told by its lead, is counted without a walk
+      module _ (inner : Walker) (from : inner .cursor ≤ inner .limit) (within : inner .limit ≤ w .limit) {leads : List ℕ} (led : Leads t leads) (bytes : (i : ℕ) → getD line i 0 < 256)
+          {key fails : ℕ} (key-is : key ≡ keyOf (ahead line (inner .limit) (inner .cursor))) (fails-are : fails ≡ failingBy (getD leads (begin + k) 0) key) (some : 0 < fails)
+          {v₁ u₁ v u : ℕ} {store₁ store : List ℕ} (did : RulesDid t line sheet d group inner n v₁ u₁ store₁ k v u store) where
+        fails-so : fails ≡ failing (rulePrefix (s .parts group k)) (ahead line (inner .limit) (inner .cursor))
+        fails-so =
+            lead-tells t line (ready .table) bytes (inner .limit) (inner .cursor) (begin + k) record-below (led .each (begin + k)) key-is fails-are some
+            ∙ ap (λ (ps : List Part). failing (rulePrefix ps) (ahead line (inner .limit) (inner .cursor))) parts-named
+
+        low : inner .limit ≤ length line
+        low = omega (arith, ready .limit)
+
+        pub rules-skip : fails ≤ v → RulesDid t line sheet d group inner n v₁ u₁ store₁ (k + 1) (v - fails) u store
+        unfolding sceneOf
+        rules-skip enough =
+            index-more (ruleFrom t line sheet d group inner) itself (d + 1) (range 0 n) k did in-range k 0 next-rule (v - fails) u store []
+            (fails-done s (under s (depths - (d + 1))) (λ e. true) (s .parts group k) (inner .limit) (inner .cursor) low from fails fails-so some (named group k) v u enough)
+            (made-none (d + 1) (logOf store u) (did .stored .earlier)) (did .stored .sized) (did .counted)
+
+        pub rules-spent : v < fails → run (each (range 0 n) (ruleFrom t line sheet d group inner)) v₁ u₁ ≡ stop (numberOf Spent) 0
+        unfolding sceneOf
+        rules-spent few =
+            index-stop (ruleFrom t line sheet d group inner) itself (d + 1) (range 0 n) k did in-range k 0 next-rule
+            (fails-stop s (under s (depths - (d + 1))) (λ e. true) (s .parts group k) (inner .limit) (inner .cursor) low from fails fails-so some (named group k) v u few)
+
+    module _ (k : ℕ) (h : k < n) (parts : Parts) (span : parts ≡ ruleSpan t (begin + k)) (inner : Walker) (from : inner .cursor ≤ inner .limit) (within : inner .limit ≤ w .limit) where
       abbrev there : Place
       there = record { set = group; rule = k; at = parts .at; end = parts .end; depth = d + 1; args = 0 }
 
       pub rule-ready : (store : List ℕ) (has : Pool) → Stored store (has .used) → Counted (sceneOf t [] []) (logOf store (has .used)) → Ready t line sheet starts store there inner has
       rule-ready store has st counts =
-          let sp = span-within t line sheet (ready .table) (begin + k) record-below parts span in
+          let sp = span-within t line sheet (ready .table) (begin + k) (record-below k h) parts span in
           record {
             table = ready .table;
             extents = ready .extents;
@@ -131,8 +177,7 @@ module _ {t line sheet starts store₀ : List ℕ} {place : Place} {w : Walker} 
 
       parts-are : partsBetween t (parts .at) (parts .end) ≡ s .parts group k
       parts-are =
-          parts-whole t (begin + k) parts span ∙ ap (λ (b : ℕ). ruleParts t (b + k)) begins
-          ∙ sym (rule-parts t line sheet (ready .table) group k (omega (arith, many)))
+          parts-whole t (begin + k) parts span ∙ parts-named k h
 
       -- a rule begins with no argument, and no count
       pub rule-stands : (store : List ℕ) (u : ℕ) {n : ℕ} → n ≡ 0 → Stands t store u there n (toCome t there) (inner .cursor)
@@ -149,12 +194,6 @@ module _ {t line sheet starts store₀ : List ℕ} {place : Place} {w : Walker} 
       module _ {v₁ u₁ v u : ℕ} {store₁ store : List ℕ} (did : RulesDid t line sheet d group inner n v₁ u₁ store₁ k v u store)
           {r : Walked} {has : Pool} (used : has .used ≡ u) {store″ : List ℕ}
           (m : Left t (ran (rulePlan t line sheet (d + 1) (parts .at) (parts .end) (inner .limit) (inner .cursor)) v has) there (logOf store (has .used)) store″ r) where
-        next-rule : k ≡ getD (range 0 n) k 0
-        next-rule = sym (range-at 0 n k 0 h ∙ omega arith)
-
-        in-range : k < length (range 0 n)
-        in-range = omega (arith, range-length 0 n)
-
         ran-is : ran (rulePlan t line sheet (d + 1) (parts .at) (parts .end) (inner .limit) (inner .cursor)) v has
             ≡ run (walk s (under s (depths - (d + 1))) (λ e. true) (s .parts group k) (inner .limit) (inner .cursor)) v u
         ran-is = ap (λ (p : Plan (List Found)). run p v (has .used)) plan-is ∙ ap (run (walk s (under s (depths - (d + 1))) (λ e. true) (s .parts group k) (inner .limit) (inner .cursor)) v) used
@@ -163,7 +202,7 @@ module _ {t line sheet starts store₀ : List ℕ} {place : Place} {w : Walker} 
         unfolding chainAt
         rules-again {l} {q} e z =
             let x = reached m e in
-            index-more (ruleFrom t line sheet d group inner) itself (d + 1) (range 0 n) k did in-range k 0 next-rule l (q .used) store″ (map (named group k) (x .founds))
+            index-more (ruleFrom t line sheet d group inner) itself (d + 1) (range 0 n) k did (in-range k h) k 0 (next-rule k h) l (q .used) store″ (map (named group k) (x .founds))
             (mapped-done (named group k) (walk s (under s (depths - (d + 1))) (λ e. true) (s .parts group k) (inner .limit) (inner .cursor)) v u (sym ran-is ∙ x .done-with))
             (subst (λ (n : ℕ). Made (d + 1) (logOf store n) (logOf store″ (q .used)) (map itself (map (named group k) (x .founds)))) used
             (subst (Made (d + 1) (logOf store (has .used)) (logOf store″ (q .used))) (sym (map-id (map (named group k) (x .founds)))) (x .made)))
@@ -171,7 +210,7 @@ module _ {t line sheet starts store₀ : List ℕ} {place : Place} {w : Walker} 
 
         pub rules-stop : {why : Refusal} {l : ℕ} → r ≡ Stopped why l → run (each (range 0 n) (ruleFrom t line sheet d group inner)) v₁ u₁ ≡ stop (numberOf why) l
         rules-stop e =
-            index-stop (ruleFrom t line sheet d group inner) itself (d + 1) (range 0 n) k did in-range k 0 next-rule
+            index-stop (ruleFrom t line sheet d group inner) itself (d + 1) (range 0 n) k did (in-range k h) k 0 (next-rule k h)
             (mapped-stop (named group k) (walk s (under s (depths - (d + 1))) (λ e. true) (s .parts group k) (inner .limit) (inner .cursor)) v u (sym ran-is ∙ refused m e))
 
     -- a whole ruleset under a limit

@@ -19,6 +19,8 @@ use Rattle.readings.specs.Scene.{Scene, sceneOf}
 use Rattle.readings.specs.Answer.{exactCount}
 use Rattle.readings.specs.Plan.{Plan, give, keep, Outcome, done, stop, run, _then_, each, when, mapped}
 use Rattle.readings.specs.Walk.{Found, Match, Below, under, depths, walk, ends, limits, firsts, anySame, sameMatch, addExpr, addNest}
+use Rattle.useful.specs.Useful.{Lent}
+use Rattle.leads.specs.Leads.{Leads}
 use Rattle.pool.specs.declared.Pool.{Pool}
 use Rattle.pool.specs.declared.Record.{Record}
 use Rattle.pool.specs.Log.{logOf, depthIn, countIn}
@@ -98,6 +100,11 @@ pub record Ready (t line sheet starts store : List ℕ) (place : Place) (w : Wal
   pub cursor : w .cursor ≤ w .limit
   pub limit : w .limit ≤ length line
   pub top : place .depth ≡ 0 → w .limit ≡ length line
+
+-- what a call prepares for its walks: the line's useful places, and the leads of rules
+pub record Prepared (t line useful words : List ℕ) : Type 0 where
+  pub places : Lent line useful
+  pub leads : Leads t words
 
 -- the parts that are still to come
 abbrev pub toCome : List ℕ → Place → List Part

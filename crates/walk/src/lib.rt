@@ -5,6 +5,7 @@
 // `Ended`), and leaves them so (`Left`).
 use defs::ruledef;
 use defs::ruledef::Part;
+use leads;
 use pool::Argument;
 use pool::ArgumentKind;
 use pool::Pool;
@@ -13,13 +14,14 @@ use pool::Room;
 use syntax::walker::Step;
 use syntax::walker::Walker;
 use syntax::walker::least;
+use useful;
 ghost use mathlib.Core.Path.{_≡_};
 ghost use Prim.Native.Nat.{ℕ, _+_, _<_, _≤_};
 ghost use lib.ListN.{length, getD};
 ghost use Rattle.readings.specs.Walk.{anySame, depths, sameMatch};
 ghost use Rattle.pool.specs.Log.{decode, logOf};
 ghost use Rattle.pool.specs.Meaning.{Stored, entries, treeAt, gathered};
-ghost use Rattle.walk.specs.Met.{Ready, Stands, toCome, fromExpr, fromNest, Ended, Left, finishPlan, rulePlan, exprPlan, nestedPlan, ran, pastAt, afterArg, made, InnerOf};
+ghost use Rattle.walk.specs.Met.{Ready, Prepared, Stands, toCome, fromExpr, fromNest, Ended, Left, finishPlan, rulePlan, exprPlan, nestedPlan, ran, pastAt, afterArg, made, InnerOf};
 
 // Where a walk stands: a rule, by its ruleset and its number there; the places of its part words that are still to come; how
 // deep it is nested; its last argument so far, as the pool counts arguments.
@@ -179,8 +181,10 @@ fn inner_match(store: &[usize], used: usize, first: usize, m: usize, depth: usiz
 pub fn match_with_rule(
     table: &[u16],
     line: &[u8],
+    useful: &[u8; useful::PLACES],
     sheet: &[u8],
     starts: &[u16],
+    leads: &[u32; ruledef::MOST_RULES],
     store: &mut [usize],
     place: Place,
     exact: usize,
@@ -190,6 +194,7 @@ pub fn match_with_rule(
 ) -> Walked
     requires { ⌜ Ready (now table) (now line) (now sheet) (now starts) (now store) place walker pool ⌝ }
     requires { ⌜ Stands (now table) (now store) (pool .used) place exact (toCome (now table) place) (walker .cursor) ⌝ }
+    requires { ⌜ Prepared (now table) (now line) (now useful) (now leads) ⌝ }
     ensures { λ r. ⌜ Left (now (table .entry)) (ran (rulePlan (now (table .entry)) (now (line .entry)) (now (sheet .entry)) (place .depth) (place .at) (place .end) (walker .limit) (walker .cursor)) visits pool) place (logOf (now (store .entry)) (pool .used)) (now (store .exit)) r ⌝ }
 {
     let mut left = visits;
@@ -211,7 +216,7 @@ pub fn match_with_rule(
         at += 1;
         match part {
             Part::Exact(b) => {
-                let step = here.maybe_expect_char(line, b);
+                let step = useful::maybe_expect_char(line, useful, here, b);
                 match step {
                     Step::Past(next) => {
                         here = next;
@@ -239,8 +244,10 @@ pub fn match_with_rule(
                 return match_with_expr(
                     table,
                     line,
+                    useful,
                     sheet,
                     starts,
+                    leads,
                     store,
                     rest,
                     exact + passed,
@@ -254,8 +261,10 @@ pub fn match_with_rule(
                 return match_with_nested_ruledef(
                     table,
                     line,
+                    useful,
                     sheet,
                     starts,
+                    leads,
                     store,
                     set,
                     rest,
@@ -273,8 +282,10 @@ pub fn match_with_rule(
 fn match_with_expr(
     table: &[u16],
     line: &[u8],
+    useful: &[u8; useful::PLACES],
     sheet: &[u8],
     starts: &[u16],
+    leads: &[u32; ruledef::MOST_RULES],
     store: &mut [usize],
     place: Place,
     exact: usize,
@@ -284,17 +295,18 @@ fn match_with_expr(
 ) -> Walked
     requires { ⌜ Ready (now table) (now line) (now sheet) (now starts) (now store) place walker pool ⌝ }
     requires { ⌜ Stands (now table) (now store) (pool .used) place exact (fromExpr (now table) place) (walker .cursor) ⌝ }
+    requires { ⌜ Prepared (now table) (now line) (now useful) (now leads) ⌝ }
     ensures { λ r. ⌜ Left (now (table .entry)) (ran (exprPlan (now (table .entry)) (now (line .entry)) (now (sheet .entry)) (place .depth) (place .at) (place .end) (walker .limit) (walker .cursor)) visits pool) place (logOf (now (store .entry)) (pool .used)) (now (store .exit)) r ⌝ }
 {
-    let useful = walker.next_useful_index(line);
-    let ends = lookahead::find_ends(table, line, sheet, walker, place.at, place.end);
+    let begins = useful::next_useful_index(line, useful, walker);
+    let ends = lookahead::find_ends(table, line, useful, sheet, walker, place.at, place.end);
     let mut left = visits;
     let mut has = pool;
     let mut i = 0;
     while i < ends.count {
         let end = ends.places[i];
         i += 1;
-        let start = least(end, useful);
+        let start = least(end, begins);
         let argument = Argument {
             start,
             end,
@@ -311,8 +323,10 @@ fn match_with_expr(
                 let got = match_with_rule(
                     table,
                     line,
+                    useful,
                     sheet,
                     starts,
+                    leads,
                     store,
                     next,
                     exact,
@@ -340,8 +354,10 @@ fn match_with_expr(
 fn match_with_nested_ruledef(
     table: &[u16],
     line: &[u8],
+    useful: &[u8; useful::PLACES],
     sheet: &[u8],
     starts: &[u16],
+    leads: &[u32; ruledef::MOST_RULES],
     store: &mut [usize],
     set: usize,
     place: Place,
@@ -353,13 +369,14 @@ fn match_with_nested_ruledef(
     requires { ⌜ Ready (now table) (now line) (now sheet) (now starts) (now store) place walker pool ⌝ }
     requires { ⌜ Stands (now table) (now store) (pool .used) place exact (fromNest (now table) set place) (walker .cursor) ⌝ }
     requires { ⌜ set < 32 ⌝ }
+    requires { ⌜ Prepared (now table) (now line) (now useful) (now leads) ⌝ }
     ensures { λ r. ⌜ Left (now (table .entry)) (ran (nestedPlan (now (table .entry)) (now (line .entry)) (now (sheet .entry)) (place .depth) set (place .at) (place .end) (walker .limit) (walker .cursor)) visits pool) place (logOf (now (store .entry)) (pool .used)) (now (store .exit)) r ⌝ }
 {
     let depth = place.depth;
     if Pool::DEPTH <= depth {
         return Walked::Stopped(Refusal::Deep, visits);
     }
-    let useful = walker.next_useful_index(line);
+    let begins = useful::next_useful_index(line, useful, walker);
     let limits = lookahead::find_limits(table, line, walker, place.at, place.end);
     let begin = starts[set] as usize;
     let count = starts[set + 1] as usize - begin;
@@ -370,9 +387,21 @@ fn match_with_nested_ruledef(
     while pass < limits.count {
         let inner = walker.set_cursor_limit(line, limits.places[pass]);
         pass += 1;
+        let ahead = leads::line_key(line, useful, inner);
         let mut rule = 0;
         while rule < count {
-            let parts = ruledef::parts_of(table, (begin + rule) as u16);
+            let number = begin + rule;
+            // A rule that fails in its leading exact parts takes no walk to count.
+            let fails = leads::failing_visits(leads[number], ahead);
+            if 0 < fails {
+                if left < fails {
+                    return Walked::Stopped(Refusal::Spent, 0);
+                }
+                left -= fails;
+                rule += 1;
+                continue;
+            }
+            let parts = ruledef::parts_of(table, number as u16);
             let start = Place {
                 set,
                 rule,
@@ -385,8 +414,10 @@ fn match_with_nested_ruledef(
             let got = match_with_rule(
                 table,
                 line,
+                useful,
                 sheet,
                 starts,
+                leads,
                 store,
                 start,
                 0,
@@ -414,7 +445,7 @@ fn match_with_nested_ruledef(
         match found {
             Inner::Nothing => {}
             Inner::Ends(end, nested) => {
-                let start = least(end, useful);
+                let start = least(end, begins);
                 let sum = exact + nested;
                 let argument = Argument {
                     start,
@@ -432,8 +463,10 @@ fn match_with_nested_ruledef(
                         let got = match_with_rule(
                             table,
                             line,
+                            useful,
                             sheet,
                             starts,
+                            leads,
                             store,
                             next,
                             sum,
