@@ -1,7 +1,7 @@
 -- The rules that were chosen, each walked on the whole line at depth 0 from its prepared place. The pool is empty at the start, so the log is what the walks left, and its matches of depth 0 are those that the plan lists.
 use mathlib.Core.Path.{_≡_, refl, sym, ap, ap₂, subst, _∙_}
 use mathlib.Core.List.{List, [], _∷_, _++_, map, map-id}
-use Prim.Native.Nat.{ℕ, _+_, _*_, _≤_, _<_}
+use Prim.Native.Nat.{ℕ, _+_, _*_, _-_, _≤_, _<_}
 use native.Mathlib.Omega.{arith}
 use lib.Dec.{eqb}
 use lib.ListN.{length, getD, take}
@@ -17,6 +17,8 @@ use Rattle.readings.specs.Tree.{node}
 use Rattle.readings.specs.Plan.{Plan, give, done, run, each, _then_}
 use Rattle.readings.specs.Walk.{Found, Match, named, walk, under, depths, trial, tries}
 use Rattle.readings.specs.Records.{pairOf}
+use Rattle.readings.specs.Fail.{ahead, failing}
+use Rattle.readings.proofs.Fails.{fails-done, fails-stop}
 use Rattle.readings.proofs.Records.{pair-parts, pair-within, few-records, span-within}
 use Rattle.pool.specs.declared.Pool.{Pool}
 use Rattle.pool.specs.declared.Record.{Record}
@@ -31,11 +33,16 @@ use Rattle.walk.specs.declared.Place.{Place}
 use Rattle.walk.specs.declared.Walked.{Walked}
 use Rattle.walk.specs.declared.Walked.the-variants.{Done, Stopped}
 use Rattle.walk.specs.declared.Refusal.{Refusal}
+use Rattle.walk.specs.declared.Refusal.the-variants.{Spent}
 use Rattle.walk.specs.Met.{finishes, partsPlan, rulePlan, ran, Ready, toCome, Stands, Made, wholeAt, Left}
+use Rattle.ruledef_map.specs.RuledefMap.{rulePrefix}
+use Rattle.leads.specs.Leads.{keyOf, failingBy, Leads}
+use Rattle.leads.proofs.Told.{lead-tells}
 use Rattle.places.specs.Places.{PlacedAt}
 use Rattle.places.proofs.Words.{table-short}
 use Rattle.trials.specs.Told.{TryAsked, Tried, listed, stopped}
 use Rattle.walk.proofs.Outcomes.{mapped-done, mapped-stop}
+use Rattle.walk.proofs.Logs.{made-none}
 use Rattle.walk.proofs.Loops.{Did, did-none, index-end, index-more, index-stop}
 use Rattle.walk.proofs.Turned.{reached, refused}
 use Rattle.walk.proofs.Rules.{itself}
@@ -81,6 +88,32 @@ module _ {t line sheet starts places store₀ rules : List ℕ} {count visits : 
       -- where the rule's words stand
       pub words-there : (rule < 512) × (4 * rule + 3 < length places)
       words-there = let few : rule < 512 = omega (arith, known, few-records t line sheet (asked .accepted .table)) in (few, omega (arith, few, asked .placed .sized))
+
+      listed-there : rule ≡ getD (take count rules) i 0
+      listed-there = rule-is ∙ sym (getD-take count rules i 0 h)
+
+      -- a rule that fails in its leading exact parts, told by its lead, is counted without a walk
+      module _ {leads : List ℕ} (led : Leads t leads) (bytes : (j : ℕ) → getD line j 0 < 256) (w : Walker) (start : w .cursor ≡ 0) (end-of : w .limit ≡ length line)
+          {key fails : ℕ} (key-is : key ≡ keyOf (ahead line (w .limit) (w .cursor))) (fails-are : fails ≡ failingBy (getD leads rule 0) key) (some : 0 < fails) where
+        fails-so : fails ≡ failing (rulePrefix (s .parts (pairOf t rule .0) (pairOf t rule .1))) (ahead line (length line) 0)
+        fails-so =
+            lead-tells t line (asked .accepted .table) bytes (length line) 0 rule known (led .each rule) (key-is ∙ ap₂ (λ (l c : ℕ). keyOf (ahead line l c)) end-of start) fails-are some
+            ∙ ap (λ (ps : List Part). failing (rulePrefix ps) (ahead line (length line) 0)) (sym (pair-parts t line sheet (asked .accepted .table) rule known))
+
+        pub tries-skip : fails ≤ v → TriesDid t line sheet (take count rules) visits u₀ store₀ (i + 1) (v - fails) u store
+        unfolding trial sceneOf
+        tries-skip enough =
+            index-more (trialOf t line sheet) itself 0 (take count rules) i did (omega (arith, long)) rule 0 listed-there (v - fails) u store []
+            (fails-done s (under s depths) (eqb (length line)) (s .parts (pairOf t rule .0) (pairOf t rule .1)) (length line) 0 (omega arith) (omega arith) fails fails-so some (named (pairOf t rule .0) (pairOf t rule .1)) v u enough)
+            (made-none 0 (logOf store u) (did .stored .earlier)) (did .stored .sized) (did .counted)
+
+        pub tries-spent : v < fails → u₀ ≡ 0 → Tried t (run (tries s (map (pairOf t) (take count rules))) visits 0) store (Stopped Spent 0)
+        unfolding trial sceneOf
+        tries-spent few z =
+            stopped
+            (ap (λ (p : Plan (List Match)). run p visits 0) (tries-are t line sheet (take count rules)) ∙ ap (run (each (take count rules) (trialOf t line sheet)) visits) (sym z)
+            ∙ index-stop (trialOf t line sheet) itself 0 (take count rules) i did (omega (arith, long)) rule 0 listed-there
+            (fails-stop s (under s depths) (eqb (length line)) (s .parts (pairOf t rule .0) (pairOf t rule .1)) (length line) 0 (omega arith) (omega arith) fails fails-so some (named (pairOf t rule .0) (pairOf t rule .1)) v u few))
 
       in-ruleset : rulesetAt t rule < 32
       in-ruleset = pair-within t line sheet (asked .accepted .table) rule known .2
@@ -171,9 +204,6 @@ module _ {t line sheet starts places store₀ rules : List ℕ} {count visits : 
             ∙ ap (λ (l : ℕ). walk s (under s depths) (eqb (length line)) (s .parts (pairOf t rule .0) (pairOf t rule .1)) l (w .cursor)) end-of
             ∙ ap (λ (c : ℕ). walk s (under s depths) (eqb (length line)) (s .parts (pairOf t rule .0) (pairOf t rule .1)) (length line) c) start
 
-        next-rule : rule ≡ getD (take count rules) i 0
-        next-rule = rule-is ∙ sym (getD-take count rules i 0 h)
-
         module _ {has : Pool} (used : has .used ≡ u) {r : Walked} {store″ : List ℕ}
             (m : Left t (ran planned v has) there (logOf store (has .used)) store″ r) where
           ran-is : ran planned v has ≡ run walked v u
@@ -192,7 +222,7 @@ module _ {t line sheet starts places store₀ rules : List ℕ} {count visits : 
           tries-again {l} {q} e z =
               let x = reached m e in
               let found = map (named (pairOf t rule .0) (pairOf t rule .1)) (x .founds) in
-              index-more (trialOf t line sheet) itself 0 (take count rules) i did (omega (arith, long)) rule 0 next-rule l (q .used) store″ found
+              index-more (trialOf t line sheet) itself 0 (take count rules) i did (omega (arith, long)) rule 0 listed-there l (q .used) store″ found
               (mapped-done (named (pairOf t rule .0) (pairOf t rule .1)) walked v u (sym ran-is ∙ x .done-with))
               (subst (λ (n : ℕ). Made 0 (logOf store n) (logOf store″ (q .used)) (map itself found)) used
               (subst (Made 0 (logOf store (has .used)) (logOf store″ (q .used))) (all-named (x .founds) ∙ sym (map-id found)) (x .made)))
@@ -203,7 +233,7 @@ module _ {t line sheet starts places store₀ rules : List ℕ} {count visits : 
           tries-stop e z =
               stopped
               (ap (λ (p : Plan (List Match)). run p visits 0) (tries-are t line sheet (take count rules)) ∙ ap (run (each (take count rules) (trialOf t line sheet)) visits) (sym z)
-              ∙ index-stop (trialOf t line sheet) itself 0 (take count rules) i did (omega (arith, long)) rule 0 next-rule
+              ∙ index-stop (trialOf t line sheet) itself 0 (take count rules) i did (omega (arith, long)) rule 0 listed-there
               (mapped-stop (named (pairOf t rule .0) (pairOf t rule .1)) walked v u (sym ran-is ∙ refused m e)))
 
     pub tries-end : count ≤ i → u₀ ≡ 0 → (has : Pool) → has .used ≡ u → Tried t (run (tries s (map (pairOf t) (take count rules))) visits 0) store (Done v has)

@@ -3,10 +3,13 @@
 // and base (3, 4, 5, 19); then the walk's budget, depth and pool (6, 7, 8); no match (1); an answer longer than the buffer
 // (9). A refusal leaves the buffer unchanged. The walk counts places from the line's start: the base comes in where the answer
 // is written.
+use defs::ruledef;
+use leads;
 use line::LineCheck;
 use places;
 use pool::Pool;
 use syntax::walker::Walker;
+use useful;
 use walk::Place;
 use walk::Refusal;
 use walk::Walked;
@@ -18,6 +21,8 @@ ghost use Rattle.readings.specs.Scene.{sceneOf};
 ghost use Rattle.readings.specs.Plan.{run};
 ghost use Rattle.readings.specs.Walk.{tries};
 ghost use Rattle.readings.specs.Call.{matched};
+ghost use Rattle.leads.specs.Leads.{Leads};
+ghost use Rattle.walk.specs.Met.{Prepared};
 ghost use Rattle.answer.specs.Measured.{treesIn};
 ghost use Rattle.trials.specs.Told.{says, checkedOf, TryAsked, Tried, TellAsked, ReadAsked, stoppedBy, listedCall, triedPairs};
 
@@ -88,12 +93,15 @@ pub fn check(line: &[u8], sheet: &[u8], budget: u32, base: u32) -> Checked
     Checked::Good
 }
 
-// The rule walk for each rule, on the whole line from its start: a top rule has depth 0 and must end at the line's end.
+// The rule walk for each rule, on the whole line from its start: a top rule has depth 0 and must end at the line's end. A rule
+// that fails in its leading exact parts takes no walk to count.
 fn try_rules(
     table: &[u16],
     line: &[u8],
+    useful: &[u8; useful::PLACES],
     sheet: &[u8],
     starts: &[u16],
+    leads: &[u32; ruledef::MOST_RULES],
     places: &[u16],
     store: &mut [usize],
     rules: &[u16],
@@ -101,14 +109,26 @@ fn try_rules(
     visits: usize,
 ) -> Walked
     requires { ⌜ TryAsked (now table) (now line) (now sheet) (now starts) (now places) (now store) (now rules) count visits ⌝ }
+    requires { ⌜ Prepared (now table) (now line) (now useful) (now leads) ⌝ }
     ensures { λ r. ⌜ Tried (now (table .entry)) (run (tries (sceneOf (now (table .entry)) (now (line .entry)) (now (sheet .entry))) (triedPairs (now (table .entry)) (now (rules .entry)) count)) visits 0) (now (store .exit)) r ⌝ }
 {
+    let walker = Walker::new(line);
+    let ahead = leads::line_key(line, useful, walker);
     let mut left = visits;
     let mut has = Pool::new();
     let mut i = 0;
     while i < count {
-        let at = places::WORDS * (rules[i] as usize);
+        let rule = rules[i] as usize;
         i += 1;
+        let fails = leads::failing_visits(leads[rule], ahead);
+        if 0 < fails {
+            if left < fails {
+                return Walked::Stopped(Refusal::Spent, 0);
+            }
+            left -= fails;
+            continue;
+        }
+        let at = places::WORDS * rule;
         let place = Place {
             set: places[at] as usize,
             rule: places[at + places::NUMBER] as usize,
@@ -117,12 +137,13 @@ fn try_rules(
             depth: 0,
             args: 0,
         };
-        let walker = Walker::new(line);
         let got = walk::match_with_rule(
             table,
             line,
+            useful,
             sheet,
             starts,
+            leads,
             store,
             place,
             0,
@@ -192,6 +213,7 @@ pub fn read_line(
     budget: u32,
     base: u32,
     starts: &[u16],
+    leads: &[u32; ruledef::MOST_RULES],
     places: &[u16],
     rules: &[u16],
     count: usize,
@@ -199,14 +221,18 @@ pub fn read_line(
     answer: &mut [u32],
 ) -> Answer
     requires { ⌜ ReadAsked (now table) (now line) (now sheet) (now starts) (now places) (now store) (now rules) count budget base ⌝ }
+    requires { ⌜ Leads (now table) (now leads) ⌝ }
     ensures answers { λ r. ⌜ says r (now (answer .exit)) ≡ listedCall (triedPairs (now (table .entry)) (now (rules .entry)) count) (now (table .entry)) (now (line .entry)) (now (sheet .entry)) budget base (now (answer .entry)) ⌝ }
 {
     let visits = budget as usize;
+    let useful = useful::useful_places(line);
     let walked = try_rules(
         table,
         line,
+        &useful,
         sheet,
         starts,
+        leads,
         places,
         store,
         rules,

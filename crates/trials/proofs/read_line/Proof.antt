@@ -1,19 +1,22 @@
 -- `trials::read_line` meets its contract.
 use mathlib.Core.Path.{refl}
 use native.Mathlib.Omega.{arith}
-use Rattle.trials.proofs.Telling.{try-asked, listed-by, stopped-by, call-within, call-stopped, call-left, call-asked, call-told}
+use Rattle.trials.proofs.Telling.{line-short, try-asked, listed-by, stopped-by, call-within, call-stopped, call-left, call-asked, call-told}
 use borrow.Author.Needs.{needs}
 use Rattle.trials.proofs.read_line.Statement.{statement}
 use Rattle.trials.proofs.read_line.Tie as tie
 
+useful-places-requires : tie.Need-useful-places-requires
+useful-places-requires c κs = line-short (c .before .before .before .before .before .before .before .before .pre .0)
+
 try-rules-requires : tie.Need-try-rules-requires
-try-rules-requires c κs = try-asked (c .before .before .before .before .before .before .before .before .before .pre)
+try-rules-requires c κs = (try-asked (c .before .before .before .before .before .before .before .before .before .before .before .pre .0), record { places = record { short = line-short (c .before .before .before .before .before .before .before .before .before .before .before .pre .0); are = c .before .before .useful-places .ensures }; leads = c .before .before .before .before .before .before .before .before .before .before .before .pre .1 })
 
 enum-known-walked : tie.Need-enum-known-walked
 enum-known-walked c = search needs
 
 sub-stopped : tie.Need-sub-stopped
-sub-stopped c = call-within (c .before .before .before .before .before .before .before .before .before .before .before .before .before .before .before .pre) (c .before .walked .given .0 .0) (stopped-by (c .before .before .before .before .before .try-rules .ensures) (c .before .walked .given .1))
+sub-stopped c = call-within (c .before .before .before .before .before .before .before .before .before .before .before .before .before .before .before .before .before .pre .0) (c .before .walked .given .0 .0) (stopped-by (c .before .before .before .before .before .try-rules .ensures) (c .before .walked .given .1))
 
 cast-stopped : tie.Need-cast-stopped
 cast-stopped c = search needs
@@ -25,19 +28,19 @@ enum-known-walked-2 : tie.Need-enum-known-walked-2
 enum-known-walked-2 c = search needs
 
 sub-tell : tie.Need-sub-tell
-sub-tell c = call-left (c .before .before .before .before .before .before .before .before .before .before .before .before .before .before .before .before .pre) (listed-by (c .before .before .before .before .before .before .try-rules .ensures) (c .before .before .walked2 .given .1))
+sub-tell c = call-left (c .before .before .before .before .before .before .before .before .before .before .before .before .before .before .before .before .before .before .pre .0) (listed-by (c .before .before .before .before .before .before .try-rules .ensures) (c .before .before .walked2 .given .1))
 
 cast-tell : tie.Need-cast-tell
 cast-tell c = search needs
 
 tell-requires : tie.Need-tell-requires
-tell-requires c κs = call-asked (c .before .before .before .before .before .before .before .before .before .before .before .before .before .before .before .before .before .pre) (listed-by (c .before .before .before .before .before .before .before .try-rules .ensures) (c .before .before .before .walked2 .given .1)) (omega (arith, c .before .before .before .before .before .before .before .try-rules .kept, c .before .before .before .before .before .before .before .before .before .before .before .before .before .before .before .before .before .pre .sized))
+tell-requires c κs = call-asked (c .before .before .before .before .before .before .before .before .before .before .before .before .before .before .before .before .before .before .before .pre .0) (listed-by (c .before .before .before .before .before .before .before .try-rules .ensures) (c .before .before .before .walked2 .given .1)) (omega (arith, c .before .before .before .before .before .before .before .try-rules .kept, c .before .before .before .before .before .before .before .before .before .before .before .before .before .before .before .before .before .before .before .pre .0 .sized))
 
 same-length : tie.Need-same-length
 same-length c = search needs
 
 returns : tie.Need-returns
-returns c = call-stopped (c .before .before .before .before .before .before .before .before .before .before .before .before .before .before .before .before .pre) (c .before .before .walked .given .0 .0) (stopped-by (c .before .before .before .before .before .before .try-rules .ensures) (c .before .before .walked .given .1)) (c .stopped .result) _ _ refl (c .stopped .ensures)
+returns c = call-stopped (c .before .before .before .before .before .before .before .before .before .before .before .before .before .before .before .before .before .before .pre .0) (c .before .before .walked .given .0 .0) (stopped-by (c .before .before .before .before .before .before .try-rules .ensures) (c .before .before .walked .given .1)) (c .stopped .result) _ _ refl (c .stopped .ensures)
 
 same-length-2 : tie.Need-same-length-2
 same-length-2 c = search needs
@@ -46,12 +49,13 @@ same-length-3 : tie.Need-same-length-3
 same-length-3 c = search needs
 
 returns-2 : tie.Need-returns-2
-returns-2 c = call-told (c .before .before .before .before .before .before .before .before .before .before .before .before .before .before .before .before .before .before .before .before .pre) (listed-by (c .before .before .before .before .before .before .before .before .before .before .try-rules .ensures) (c .before .before .before .before .before .before .walked2 .given .1)) _ _ _ refl (c .before .before .tell .ensures)
+returns-2 c = call-told (c .before .before .before .before .before .before .before .before .before .before .before .before .before .before .before .before .before .before .before .before .before .before .pre .0) (listed-by (c .before .before .before .before .before .before .before .before .before .before .try-rules .ensures) (c .before .before .before .before .before .before .walked2 .given .1)) _ _ _ refl (c .before .before .tell .ensures)
 
 pub read-line-spec : {M : Type 1} → statement M
 read-line-spec =
     tie.close
     (tie.spec
+    useful-places-requires
     try-rules-requires
     enum-known-walked
     sub-stopped

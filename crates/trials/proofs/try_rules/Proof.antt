@@ -3,115 +3,139 @@ use Prim.Native.Nat.{_-_}
 use native.Mathlib.Omega.{arith}
 use lib.ListN.{take}
 use mathlib.Core.Path.{refl}
-use Rattle.trials.proofs.Tries.{TriesDid, tries-start, words-there, fields-small, try-ready, try-stands, tries-again, tries-stop, tries-end}
+use Rattle.trials.proofs.Tries.{TriesDid, tries-start, words-there, fields-small, try-ready, try-stands, tries-again, tries-stop, tries-skip, tries-spent, tries-end}
 use borrow.Author.Needs.{needs}
 use Rattle.trials.proofs.try_rules.Statement.{statement}
 use Rattle.trials.proofs.try_rules.Tie as tie
 
 abbrev Inv-loop : tie.InvT-loop
-Inv-loop table line sheet starts places store₀ rules count visits left₀ has₀ i₀ store left has i = TriesDid table line sheet (take count rules) left₀ (has₀ .used) store₀ i left (has .used) store
+Inv-loop table line useful sheet starts leads places store₀ rules count visits walker ahead left₀ has₀ i₀ store left has i = TriesDid table line sheet (take count rules) left₀ (has₀ .used) store₀ i left (has .used) store
 
 abbrev μ-loop : tie.MeasureT-loop
-μ-loop table line sheet starts places store₀ rules count visits left₀ has₀ i₀ store left has i = count - i
+μ-loop table line useful sheet starts leads places store₀ rules count visits walker ahead left₀ has₀ i₀ store left has i = count - i
 
 new-requires : tie.Need-new-requires Inv-loop μ-loop
 new-requires c κs = search needs
 
-loop-holds : tie.Need-loop-holds Inv-loop μ-loop
-loop-holds c = tries-start (c .before .before .before .before .before .before .before .before .pre) _ (c .new .ensures)
-
-mul-at : tie.Need-mul-at Inv-loop μ-loop
-mul-at c = omega (arith, c .loop-test .taken, c .before .before .before .before .before .before .before .before .before .before .pre .fits)
-
-shared-slice-read-at : tie.Need-shared-slice-read-at Inv-loop μ-loop
-shared-slice-read-at c = omega (arith, c .before .loop-test .taken, c .before .before .before .before .before .before .before .before .before .before .before .pre .fits)
-
-cast-at : tie.Need-cast-at Inv-loop μ-loop
-cast-at c = omega (arith, words-there (c .before .before .before .before .before .before .before .before .before .before .before .pre) _ (c .before .before .loop .inv) (c .before .loop-test .taken) _ refl .0)
-
-mul-at-2 : tie.Need-mul-at-2 Inv-loop μ-loop
-mul-at-2 c = omega (arith, words-there (c .before .before .before .before .before .before .before .before .before .before .before .pre) _ (c .before .before .loop .inv) (c .before .loop-test .taken) _ refl .0)
-
-add-i : tie.Need-add-i Inv-loop μ-loop
-add-i c = omega (arith, c .before .loop-test .taken)
-
-mul-t22 : tie.Need-mul-t22 Inv-loop μ-loop
-mul-t22 c = omega (arith, words-there (c .before .before .before .before .before .before .before .before .before .before .before .pre) _ (c .before .before .loop .inv) (c .before .loop-test .taken) _ refl .0)
-
-shared-slice-read-t24 : tie.Need-shared-slice-read-t24 Inv-loop μ-loop
-shared-slice-read-t24 c = omega (arith, words-there (c .before .before .before .before .before .before .before .before .before .before .before .before .pre) _ (c .before .before .before .loop .inv) (c .before .before .loop-test .taken) _ refl .1)
-
-cast-t25 : tie.Need-cast-t25 Inv-loop μ-loop
-cast-t25 c = omega (arith, fields-small (c .before .before .before .before .before .before .before .before .before .before .before .before .pre) _ (c .before .before .before .loop .inv) (c .before .before .loop-test .taken) _ refl .0)
-
-add-t27 : tie.Need-add-t27 Inv-loop μ-loop
-add-t27 c = omega (arith, words-there (c .before .before .before .before .before .before .before .before .before .before .before .before .pre) _ (c .before .before .before .loop .inv) (c .before .before .loop-test .taken) _ refl .0)
-
-mul-t28 : tie.Need-mul-t28 Inv-loop μ-loop
-mul-t28 c = omega (arith, words-there (c .before .before .before .before .before .before .before .before .before .before .before .before .pre) _ (c .before .before .before .loop .inv) (c .before .before .loop-test .taken) _ refl .0)
-
-shared-slice-read-t30 : tie.Need-shared-slice-read-t30 Inv-loop μ-loop
-shared-slice-read-t30 c = omega (arith, words-there (c .before .before .before .before .before .before .before .before .before .before .before .before .before .pre) _ (c .before .before .before .before .loop .inv) (c .before .before .before .loop-test .taken) _ refl .1)
-
-cast-t31 : tie.Need-cast-t31 Inv-loop μ-loop
-cast-t31 c = omega (arith, fields-small (c .before .before .before .before .before .before .before .before .before .before .before .before .before .pre) _ (c .before .before .before .before .loop .inv) (c .before .before .before .loop-test .taken) _ refl .1)
-
-add-t32 : tie.Need-add-t32 Inv-loop μ-loop
-add-t32 c = omega (arith, words-there (c .before .before .before .before .before .before .before .before .before .before .before .before .before .pre) _ (c .before .before .before .before .loop .inv) (c .before .before .before .loop-test .taken) _ refl .0)
-
-mul-t33 : tie.Need-mul-t33 Inv-loop μ-loop
-mul-t33 c = omega (arith, words-there (c .before .before .before .before .before .before .before .before .before .before .before .before .before .pre) _ (c .before .before .before .before .loop .inv) (c .before .before .before .loop-test .taken) _ refl .0)
-
-shared-slice-read-t35 : tie.Need-shared-slice-read-t35 Inv-loop μ-loop
-shared-slice-read-t35 c = omega (arith, words-there (c .before .before .before .before .before .before .before .before .before .before .before .before .before .before .pre) _ (c .before .before .before .before .before .loop .inv) (c .before .before .before .before .loop-test .taken) _ refl .1)
-
-cast-t36 : tie.Need-cast-t36 Inv-loop μ-loop
-cast-t36 c = omega (arith, fields-small (c .before .before .before .before .before .before .before .before .before .before .before .before .before .before .pre) _ (c .before .before .before .before .before .loop .inv) (c .before .before .before .before .loop-test .taken) _ refl .2)
-
-add-t37 : tie.Need-add-t37 Inv-loop μ-loop
-add-t37 c = omega (arith, words-there (c .before .before .before .before .before .before .before .before .before .before .before .before .before .before .pre) _ (c .before .before .before .before .before .loop .inv) (c .before .before .before .before .loop-test .taken) _ refl .0)
-
-mul-t38 : tie.Need-mul-t38 Inv-loop μ-loop
-mul-t38 c = omega (arith, words-there (c .before .before .before .before .before .before .before .before .before .before .before .before .before .before .pre) _ (c .before .before .before .before .before .loop .inv) (c .before .before .before .before .loop-test .taken) _ refl .0)
-
-shared-slice-read-t40 : tie.Need-shared-slice-read-t40 Inv-loop μ-loop
-shared-slice-read-t40 c = omega (arith, words-there (c .before .before .before .before .before .before .before .before .before .before .before .before .before .before .before .pre) _ (c .before .before .before .before .before .before .loop .inv) (c .before .before .before .before .before .loop-test .taken) _ refl .1)
-
-cast-t41 : tie.Need-cast-t41 Inv-loop μ-loop
-cast-t41 c = omega (arith, fields-small (c .before .before .before .before .before .before .before .before .before .before .before .before .before .before .before .pre) _ (c .before .before .before .before .before .before .loop .inv) (c .before .before .before .before .before .loop-test .taken) _ refl .3)
+line-key-requires : tie.Need-line-key-requires Inv-loop μ-loop
+line-key-requires c κs = (c .before .before .before .before .before .before .before .before .pre .1 .places, (omega (arith, c .new .ensures .0), omega (arith, c .new .ensures .1)))
 
 new-requires-2 : tie.Need-new-requires-2 Inv-loop μ-loop
 new-requires-2 c κs = search needs
 
+loop-holds : tie.Need-loop-holds Inv-loop μ-loop
+loop-holds c = tries-start (c .before .before .before .before .before .before .before .before .before .before .pre .0) _ (c .new2 .ensures)
+
+mul-rule : tie.Need-mul-rule Inv-loop μ-loop
+mul-rule c = omega (arith, c .loop-test .taken, c .before .before .before .before .before .before .before .before .before .before .before .before .pre .0 .fits)
+
+shared-slice-read-rule : tie.Need-shared-slice-read-rule Inv-loop μ-loop
+shared-slice-read-rule c = omega (arith, c .before .loop-test .taken, c .before .before .before .before .before .before .before .before .before .before .before .before .before .pre .0 .fits)
+
+cast-rule : tie.Need-cast-rule Inv-loop μ-loop
+cast-rule c = omega (arith, words-there (c .before .before .before .before .before .before .before .before .before .before .before .before .before .pre .0) _ (c .before .before .loop .inv) (c .before .loop-test .taken) _ refl .0)
+
+add-i : tie.Need-add-i Inv-loop μ-loop
+add-i c = omega (arith, c .before .loop-test .taken)
+
+mul-failing-visits : tie.Need-mul-failing-visits Inv-loop μ-loop
+mul-failing-visits c = omega (arith, words-there (c .before .before .before .before .before .before .before .before .before .before .before .before .before .pre .0) _ (c .before .before .loop .inv) (c .before .loop-test .taken) _ refl .0)
+
+element-copy-out-failing-visits : tie.Need-element-copy-out-failing-visits Inv-loop μ-loop
+element-copy-out-failing-visits c = omega (arith, words-there (c .before .before .before .before .before .before .before .before .before .before .before .before .before .pre .0) _ (c .before .before .loop .inv) (c .before .loop-test .taken) _ refl .0, c .before .before .before .before .before .before .before .before .before .before .before .before .before .pre .1 .leads .sized)
+
+failing-visits-requires : tie.Need-failing-visits-requires Inv-loop μ-loop
+failing-visits-requires c κs = search needs
+
+same-length : tie.Need-same-length Inv-loop μ-loop
+same-length c = omega (arith, c .before .before .before .before .before .before .loop .inv .stored .sized, c .before .before .before .before .before .before .before .before .before .before .before .before .before .before .before .before .before .pre .0 .sized)
+
+returns : tie.Need-returns Inv-loop μ-loop
+returns c = tries-spent (c .before .before .before .before .before .before .before .before .before .before .before .before .before .before .before .before .before .pre .0) _ (c .before .before .before .before .before .before .loop .inv) (c .before .before .before .before .before .loop-test .taken) _ refl (c .before .before .before .before .before .before .before .before .before .before .before .before .before .before .before .before .before .pre .1 .leads) (λ j. omega (arith, c .before .before .before .before .before .before .before .before .before .before .before .before .before .before .before .shared-slice-known2 .given j)) _ (c .before .before .before .before .before .before .before .before .before .new .ensures .0) (c .before .before .before .before .before .before .before .before .before .new .ensures .1) (c .before .before .before .before .before .before .before .before .line-key .ensures) (c .before .before .failing-visits .ensures) (c .before .if1 .taken) (c .if2 .taken) (c .before .before .before .before .before .before .before .new2 .ensures)
+
+loop-less : tie.Need-loop-less Inv-loop μ-loop
+loop-less c = omega (arith, c .before .before .before .before .before .loop-test .taken)
+
+loop-again : tie.Need-loop-again Inv-loop μ-loop
+loop-again c = tries-skip (c .before .before .before .before .before .before .before .before .before .before .before .before .before .before .before .before .before .pre .0) _ (c .before .before .before .before .before .before .loop .inv) (c .before .before .before .before .before .loop-test .taken) _ refl (c .before .before .before .before .before .before .before .before .before .before .before .before .before .before .before .before .before .pre .1 .leads) (λ j. omega (arith, c .before .before .before .before .before .before .before .before .before .before .before .before .before .before .before .shared-slice-known2 .given j)) _ (c .before .before .before .before .before .before .before .before .before .new .ensures .0) (c .before .before .before .before .before .before .before .before .before .new .ensures .1) (c .before .before .before .before .before .before .before .before .line-key .ensures) (c .before .before .failing-visits .ensures) (c .before .if1 .taken) (c .if2 .left)
+
+mul-at : tie.Need-mul-at Inv-loop μ-loop
+mul-at c = omega (arith, words-there (c .before .before .before .before .before .before .before .before .before .before .before .before .before .before .before .before .pre .0) _ (c .before .before .before .before .before .loop .inv) (c .before .before .before .before .loop-test .taken) _ refl .0)
+
+mul-t27 : tie.Need-mul-t27 Inv-loop μ-loop
+mul-t27 c = omega (arith, words-there (c .before .before .before .before .before .before .before .before .before .before .before .before .before .before .before .before .pre .0) _ (c .before .before .before .before .before .loop .inv) (c .before .before .before .before .loop-test .taken) _ refl .0)
+
+shared-slice-read-t29 : tie.Need-shared-slice-read-t29 Inv-loop μ-loop
+shared-slice-read-t29 c = omega (arith, words-there (c .before .before .before .before .before .before .before .before .before .before .before .before .before .before .before .before .before .pre .0) _ (c .before .before .before .before .before .before .loop .inv) (c .before .before .before .before .before .loop-test .taken) _ refl .1)
+
+cast-t36 : tie.Need-cast-t36 Inv-loop μ-loop
+cast-t36 c = omega (arith, fields-small (c .before .before .before .before .before .before .before .before .before .before .before .before .before .before .before .before .before .pre .0) _ (c .before .before .before .before .before .before .loop .inv) (c .before .before .before .before .before .loop-test .taken) _ refl .0)
+
+add-t37 : tie.Need-add-t37 Inv-loop μ-loop
+add-t37 c = omega (arith, words-there (c .before .before .before .before .before .before .before .before .before .before .before .before .before .before .before .before .before .pre .0) _ (c .before .before .before .before .before .before .loop .inv) (c .before .before .before .before .before .loop-test .taken) _ refl .0)
+
+mul-t38 : tie.Need-mul-t38 Inv-loop μ-loop
+mul-t38 c = omega (arith, words-there (c .before .before .before .before .before .before .before .before .before .before .before .before .before .before .before .before .before .pre .0) _ (c .before .before .before .before .before .before .loop .inv) (c .before .before .before .before .before .loop-test .taken) _ refl .0)
+
+shared-slice-read-t40 : tie.Need-shared-slice-read-t40 Inv-loop μ-loop
+shared-slice-read-t40 c = omega (arith, words-there (c .before .before .before .before .before .before .before .before .before .before .before .before .before .before .before .before .before .before .pre .0) _ (c .before .before .before .before .before .before .before .loop .inv) (c .before .before .before .before .before .before .loop-test .taken) _ refl .1)
+
+cast-t41 : tie.Need-cast-t41 Inv-loop μ-loop
+cast-t41 c = omega (arith, fields-small (c .before .before .before .before .before .before .before .before .before .before .before .before .before .before .before .before .before .before .pre .0) _ (c .before .before .before .before .before .before .before .loop .inv) (c .before .before .before .before .before .before .loop-test .taken) _ refl .1)
+
+add-t42 : tie.Need-add-t42 Inv-loop μ-loop
+add-t42 c = omega (arith, words-there (c .before .before .before .before .before .before .before .before .before .before .before .before .before .before .before .before .before .before .pre .0) _ (c .before .before .before .before .before .before .before .loop .inv) (c .before .before .before .before .before .before .loop-test .taken) _ refl .0)
+
+mul-t43 : tie.Need-mul-t43 Inv-loop μ-loop
+mul-t43 c = omega (arith, words-there (c .before .before .before .before .before .before .before .before .before .before .before .before .before .before .before .before .before .before .pre .0) _ (c .before .before .before .before .before .before .before .loop .inv) (c .before .before .before .before .before .before .loop-test .taken) _ refl .0)
+
+shared-slice-read-t45 : tie.Need-shared-slice-read-t45 Inv-loop μ-loop
+shared-slice-read-t45 c = omega (arith, words-there (c .before .before .before .before .before .before .before .before .before .before .before .before .before .before .before .before .before .before .before .pre .0) _ (c .before .before .before .before .before .before .before .before .loop .inv) (c .before .before .before .before .before .before .before .loop-test .taken) _ refl .1)
+
+cast-t46 : tie.Need-cast-t46 Inv-loop μ-loop
+cast-t46 c = omega (arith, fields-small (c .before .before .before .before .before .before .before .before .before .before .before .before .before .before .before .before .before .before .before .pre .0) _ (c .before .before .before .before .before .before .before .before .loop .inv) (c .before .before .before .before .before .before .before .loop-test .taken) _ refl .2)
+
+add-t47 : tie.Need-add-t47 Inv-loop μ-loop
+add-t47 c = omega (arith, words-there (c .before .before .before .before .before .before .before .before .before .before .before .before .before .before .before .before .before .before .before .pre .0) _ (c .before .before .before .before .before .before .before .before .loop .inv) (c .before .before .before .before .before .before .before .loop-test .taken) _ refl .0)
+
+mul-t48 : tie.Need-mul-t48 Inv-loop μ-loop
+mul-t48 c = omega (arith, words-there (c .before .before .before .before .before .before .before .before .before .before .before .before .before .before .before .before .before .before .before .pre .0) _ (c .before .before .before .before .before .before .before .before .loop .inv) (c .before .before .before .before .before .before .before .loop-test .taken) _ refl .0)
+
+shared-slice-read-t50 : tie.Need-shared-slice-read-t50 Inv-loop μ-loop
+shared-slice-read-t50 c = omega (arith, words-there (c .before .before .before .before .before .before .before .before .before .before .before .before .before .before .before .before .before .before .before .before .pre .0) _ (c .before .before .before .before .before .before .before .before .before .loop .inv) (c .before .before .before .before .before .before .before .before .loop-test .taken) _ refl .1)
+
+cast-t51 : tie.Need-cast-t51 Inv-loop μ-loop
+cast-t51 c = omega (arith, fields-small (c .before .before .before .before .before .before .before .before .before .before .before .before .before .before .before .before .before .before .before .before .pre .0) _ (c .before .before .before .before .before .before .before .before .before .loop .inv) (c .before .before .before .before .before .before .before .before .loop-test .taken) _ refl .3)
+
 match-with-rule-requires : tie.Need-match-with-rule-requires Inv-loop μ-loop
 match-with-rule-requires c κs = (
-  try-ready (c .before .before .before .before .before .before .before .before .before .before .before .before .before .before .before .before .before .pre) _ (c .before .before .before .before .before .before .before .before .loop .inv) (c .before .before .before .before .before .before .before .loop-test .taken) _ refl _ (c .before .new2 .ensures .0) (c .before .new2 .ensures .1) _ refl,
-  try-stands (c .before .before .before .before .before .before .before .before .before .before .before .before .before .before .before .before .before .pre) _ (c .before .before .before .before .before .before .before .before .loop .inv) (c .before .before .before .before .before .before .before .loop-test .taken) _ refl _ (c .before .new2 .ensures .0) (c .before .new2 .ensures .1) _ refl,
+  try-ready (c .before .before .before .before .before .before .before .before .before .before .before .before .before .before .before .before .before .before .before .before .before .pre .0) _ (c .before .before .before .before .before .before .before .before .before .before .loop .inv) (c .before .before .before .before .before .before .before .before .before .loop-test .taken) _ refl _ (c .before .before .before .before .before .before .before .before .before .before .before .before .before .new .ensures .0) (c .before .before .before .before .before .before .before .before .before .before .before .before .before .new .ensures .1) _ refl,
+  (try-stands (c .before .before .before .before .before .before .before .before .before .before .before .before .before .before .before .before .before .before .before .before .before .pre .0) _ (c .before .before .before .before .before .before .before .before .before .before .loop .inv) (c .before .before .before .before .before .before .before .before .before .loop-test .taken) _ refl _ (c .before .before .before .before .before .before .before .before .before .before .before .before .before .new .ensures .0) (c .before .before .before .before .before .before .before .before .before .before .before .before .before .new .ensures .1) _ refl, c .before .before .before .before .before .before .before .before .before .before .before .before .before .before .before .before .before .before .before .before .before .pre .1),
 )
 
 enum-known-got : tie.Need-enum-known-got Inv-loop μ-loop
 enum-known-got c = search needs
 
-loop-less : tie.Need-loop-less Inv-loop μ-loop
-loop-less c = omega (arith, c .before .before .before .before .before .before .before .before .before .before .before .before .before .loop-test .taken)
+loop-less-2 : tie.Need-loop-less-2 Inv-loop μ-loop
+loop-less-2 c = omega (arith, c .before .before .before .before .before .before .before .before .before .before .before .before .before .before .before .loop-test .taken)
 
-loop-again : tie.Need-loop-again Inv-loop μ-loop
-loop-again c = tries-again (c .before .before .before .before .before .before .before .before .before .before .before .before .before .before .before .before .before .before .before .before .before .before .before .pre) _ (c .before .before .before .before .before .before .before .before .before .before .before .before .before .before .loop .inv) (c .before .before .before .before .before .before .before .before .before .before .before .before .before .loop-test .taken) _ refl _ (c .before .before .before .before .before .before .before .new2 .ensures .0) (c .before .before .before .before .before .before .before .new2 .ensures .1) refl (c .before .before .before .before .before .match-with-rule .ensures) (c .before .got .given .1) (omega (arith, c .before .before .before .before .before .match-with-rule .kept, c .before .before .before .before .before .before .before .before .before .before .before .before .before .before .loop .inv .stored .sized))
+loop-again-2 : tie.Need-loop-again-2 Inv-loop μ-loop
+loop-again-2 c = tries-again (c .before .before .before .before .before .before .before .before .before .before .before .before .before .before .before .before .before .before .before .before .before .before .before .before .before .before .before .pre .0) _ (c .before .before .before .before .before .before .before .before .before .before .before .before .before .before .before .before .loop .inv) (c .before .before .before .before .before .before .before .before .before .before .before .before .before .before .before .loop-test .taken) _ refl _ (c .before .before .before .before .before .before .before .before .before .before .before .before .before .before .before .before .before .before .before .new .ensures .0) (c .before .before .before .before .before .before .before .before .before .before .before .before .before .before .before .before .before .before .before .new .ensures .1) refl (c .before .before .before .before .before .match-with-rule .ensures) (c .before .got .given .1) (omega (arith, c .before .before .before .before .before .match-with-rule .kept, c .before .before .before .before .before .before .before .before .before .before .before .before .before .before .before .before .loop .inv .stored .sized))
 
 enum-known-got-2 : tie.Need-enum-known-got-2 Inv-loop μ-loop
 enum-known-got-2 c = search needs
 
-same-length : tie.Need-same-length Inv-loop μ-loop
-same-length c = omega (arith, c .before .before .before .before .before .match-with-rule .kept, c .before .before .before .before .before .before .before .before .before .before .before .before .before .before .loop .inv .stored .sized, c .before .before .before .before .before .before .before .before .before .before .before .before .before .before .before .before .before .before .before .before .before .before .before .pre .sized)
-
-returns : tie.Need-returns Inv-loop μ-loop
-returns c = tries-stop (c .before .before .before .before .before .before .before .before .before .before .before .before .before .before .before .before .before .before .before .before .before .before .before .pre) _ (c .before .before .before .before .before .before .before .before .before .before .before .before .before .before .loop .inv) (c .before .before .before .before .before .before .before .before .before .before .before .before .before .loop-test .taken) _ refl _ (c .before .before .before .before .before .before .before .new2 .ensures .0) (c .before .before .before .before .before .before .before .new2 .ensures .1) refl (c .before .before .before .before .before .match-with-rule .ensures) (c .before .got2 .given .1) (c .before .before .before .before .before .before .before .before .before .before .before .before .before .before .before .new .ensures)
-
 same-length-2 : tie.Need-same-length-2 Inv-loop μ-loop
-same-length-2 c = omega (arith, c .before .loop .inv .stored .sized, c .before .before .before .before .before .before .before .before .before .before .pre .sized)
+same-length-2 c = omega (arith, c .before .before .before .before .before .match-with-rule .kept, c .before .before .before .before .before .before .before .before .before .before .before .before .before .before .before .before .loop .inv .stored .sized, c .before .before .before .before .before .before .before .before .before .before .before .before .before .before .before .before .before .before .before .before .before .before .before .before .before .before .before .pre .0 .sized)
 
 returns-2 : tie.Need-returns-2 Inv-loop μ-loop
-returns-2 c = tries-end (c .before .before .before .before .before .before .before .before .before .before .pre) _ (c .before .loop .inv) (c .loop-test .left) (c .before .before .new .ensures) _ refl
+returns-2 c = tries-stop (c .before .before .before .before .before .before .before .before .before .before .before .before .before .before .before .before .before .before .before .before .before .before .before .before .before .before .before .pre .0) _ (c .before .before .before .before .before .before .before .before .before .before .before .before .before .before .before .before .loop .inv) (c .before .before .before .before .before .before .before .before .before .before .before .before .before .before .before .loop-test .taken) _ refl _ (c .before .before .before .before .before .before .before .before .before .before .before .before .before .before .before .before .before .before .before .new .ensures .0) (c .before .before .before .before .before .before .before .before .before .before .before .before .before .before .before .before .before .before .before .new .ensures .1) refl (c .before .before .before .before .before .match-with-rule .ensures) (c .before .got2 .given .1) (c .before .before .before .before .before .before .before .before .before .before .before .before .before .before .before .before .before .new2 .ensures)
+
+same-length-3 : tie.Need-same-length-3 Inv-loop μ-loop
+same-length-3 c = omega (arith, c .before .loop .inv .stored .sized, c .before .before .before .before .before .before .before .before .before .before .before .before .pre .0 .sized)
+
+returns-3 : tie.Need-returns-3 Inv-loop μ-loop
+returns-3 c = tries-end (c .before .before .before .before .before .before .before .before .before .before .before .before .pre .0) _ (c .before .loop .inv) (c .loop-test .left) (c .before .before .new2 .ensures) _ refl
 
 pub try-rules-spec : {M : Type 1} → statement M
 try-rules-spec =
@@ -120,34 +144,42 @@ try-rules-spec =
     Inv-loop
     μ-loop
     new-requires
+    line-key-requires
+    new-requires-2
     loop-holds
-    mul-at
-    shared-slice-read-at
-    cast-at
-    mul-at-2
+    mul-rule
+    shared-slice-read-rule
+    cast-rule
     add-i
-    mul-t22
-    shared-slice-read-t24
-    cast-t25
-    add-t27
-    mul-t28
-    shared-slice-read-t30
-    cast-t31
-    add-t32
-    mul-t33
-    shared-slice-read-t35
+    mul-failing-visits
+    element-copy-out-failing-visits
+    failing-visits-requires
+    same-length
+    returns
+    loop-less
+    loop-again
+    mul-at
+    mul-t27
+    shared-slice-read-t29
     cast-t36
     add-t37
     mul-t38
     shared-slice-read-t40
     cast-t41
-    new-requires-2
+    add-t42
+    mul-t43
+    shared-slice-read-t45
+    cast-t46
+    add-t47
+    mul-t48
+    shared-slice-read-t50
+    cast-t51
     match-with-rule-requires
     enum-known-got
-    loop-less
-    loop-again
+    loop-less-2
+    loop-again-2
     enum-known-got-2
-    same-length
-    returns
     same-length-2
-    returns-2)
+    returns-2
+    same-length-3
+    returns-3)
