@@ -62,6 +62,8 @@ fn call(
     let count = rules_to_try(table, line, order, &mut rules);
     let mut places = [0u16; places::ROOM];
     places::place_rules(table, &starts, &rules, count, &mut places);
+    let mut leads = [0u32; ruledef::MOST_RULES];
+    trials::lead_rules(table, &starts, &places, &rules, count, order, &mut leads);
     let mut store = [0usize; Pool::ROOM];
     trials::read_line(
         table,
@@ -70,6 +72,7 @@ fn call(
         budget,
         base,
         &starts,
+        &leads,
         &places,
         &rules,
         count,

@@ -17,6 +17,7 @@ ghost use Rattle.defs.specs.Ruledef.{startsOf};
 ghost use Rattle.line.specs.Line.{faultAt};
 ghost use Rattle.readings.specs.Plan.{room};
 ghost use Rattle.readings.specs.Call.{callWith};
+ghost use Rattle.leads.specs.Leads.{Leads};
 ghost use Rattle.lines.specs.Lines.{linesOf, programFits};
 ghost use Rattle.runs.specs.Program.{runLines, lineCall, programWith, scanProgram, lookupProgram};
 ghost use Rattle.runs.specs.Demand.{ReadProgram, AllWithin};
@@ -78,6 +79,7 @@ fn prepare(
     how: Order,
     starts: &[u16],
     places: &mut [u16],
+    leads: &mut [u32],
     order: &mut [usize],
     rules: &mut [u16],
 ) -> usize
@@ -86,10 +88,13 @@ fn prepare(
     requires { ⌜ length (now places) ≡ 2048 ⌝ }
     requires { ⌜ length (now order) ≡ 512 ⌝ }
     requires { ⌜ length (now rules) ≡ 512 ⌝ }
+    requires { ⌜ Leads (now table) (now leads) ⌝ }
     ensures { λ r. ⌜ Ready how (now (table .entry)) (now (starts .entry)) (now (places .exit)) (now (order .exit)) (now (rules .exit)) r ⌝ }
+    ensures leads { λ _. ⌜ Leads (now (table .entry)) (now (leads .exit)) ⌝ }
 {
     let tops = ruledef_map::top_rules(table, rules);
     places::place_rules(table, starts, rules, tops, places);
+    trials::lead_rules(table, starts, places, rules, tops, how, leads);
     match how {
         Order::Scan => {}
         Order::Lookup => {
@@ -129,6 +134,7 @@ fn run_line(
     base: u32,
     how: Order,
     starts: &[u16],
+    leads: &[u32; ruledef::MOST_RULES],
     places: &[u16],
     order: &[usize],
     tops: usize,
@@ -138,6 +144,7 @@ fn run_line(
 ) -> Answer
     requires { ⌜ Ready how (now table) (now starts) (now places) (now order) (now rules) tops ⌝ }
     requires { ⌜ length (now store) ≡ room ⌝ }
+    requires { ⌜ Leads (now table) (now leads) ⌝ }
     ensures tells { λ r. ⌜ says r (now (answer .exit)) ≡ callWith (orderOf how) (now (table .entry)) (now (line .entry)) (now (sheet .entry)) budget base (now (answer .entry)) ⌝ }
     ensures keeps { λ _. ⌜ Ordered how (now (table .entry)) (now (order .entry)) (now (rules .exit)) tops ⌝ }
 {
@@ -156,6 +163,7 @@ fn run_line(
         budget,
         base,
         starts,
+        leads,
         places,
         rules,
         count,
@@ -174,6 +182,7 @@ fn run_lines(
     bases: &[u32],
     how: Order,
     starts: &[u16],
+    leads: &[u32; ruledef::MOST_RULES],
     places: &[u16],
     order: &[usize],
     tops: usize,
@@ -185,6 +194,7 @@ fn run_lines(
     requires { ⌜ Ready how (now table) (now starts) (now places) (now order) (now rules) tops ⌝ }
     requires { ⌜ length (now store) ≡ room ⌝ }
     requires { ⌜ programFits (length (now text)) (now ends) (length (now sheets)) (length (now budgets)) (length (now bases)) (length (now rows)) ≡ true ⌝ }
+    requires { ⌜ Leads (now table) (now leads) ⌝ }
     ensures runs { λ r. ⌜ record { rows = now (rows .exit); words = r; answers = now (answers .exit) } ≡ runLines (lineCall (orderOf how) (now (table .entry))) (linesOf (now (text .entry)) (now (ends .entry)) (now (sheets .entry)) (now (budgets .entry)) (now (bases .entry))) 0 (now (answers .entry)) ⌝ }
     ensures few { λ r. ⌜ r ≤ 3222798848 ⌝ }
 {
@@ -207,6 +217,7 @@ fn run_lines(
             base,
             how,
             starts,
+            leads,
             places,
             order,
             tops,
@@ -255,9 +266,18 @@ fn run_program(
     }
     let starts = ruledef::ruleset_starts(table);
     let mut places = [0u16; places::ROOM];
+    let mut leads = [0u32; ruledef::MOST_RULES];
     let mut order = [0usize; ruledef::MOST_RULES];
     let mut rules = [0u16; ruledef::MOST_RULES];
-    let tops = prepare(table, how, &starts, &mut places, &mut order, &mut rules);
+    let tops = prepare(
+        table,
+        how,
+        &starts,
+        &mut places,
+        &mut leads,
+        &mut order,
+        &mut rules,
+    );
     let mut store = [0usize; Pool::ROOM];
     let words = run_lines(
         table,
@@ -268,6 +288,7 @@ fn run_program(
         bases,
         how,
         &starts,
+        &leads,
         &places,
         &order,
         tops,

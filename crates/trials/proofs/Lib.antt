@@ -4,3 +4,4 @@ pub mod Tries
 pub mod Telling
 pub mod Ordered
 pub mod Tight
+pub mod Leading

@@ -21,9 +21,10 @@ ghost use Rattle.readings.specs.Scene.{sceneOf};
 ghost use Rattle.readings.specs.Plan.{run};
 ghost use Rattle.readings.specs.Walk.{tries};
 ghost use Rattle.readings.specs.Call.{matched};
-ghost use Rattle.leads.specs.Leads.{Leads};
+ghost use Rattle.leads.specs.Leads.{Leads, Led};
 ghost use Rattle.walk.specs.Met.{Prepared};
 ghost use Rattle.answer.specs.Measured.{treesIn};
+ghost use Rattle.trials.specs.Orders.{LedFor, LeadAsked};
 ghost use Rattle.trials.specs.Told.{says, checkedOf, TryAsked, Tried, TellAsked, ReadAsked, stoppedBy, listedCall, triedPairs};
 
 const MOST_VISITS: u32 = 1_000_000;
@@ -63,6 +64,26 @@ pub enum Checked {
 pub enum Order {
     Scan,
     Lookup,
+}
+
+// Lays the leads that a call's walks go by.
+pub fn lead_rules(
+    table: &[u16],
+    starts: &[u16],
+    places: &[u16],
+    rules: &[u16],
+    count: usize,
+    order: Order,
+    leads: &mut [u32],
+)
+    requires { ⌜ LeadAsked (now table) (now starts) (now places) (now rules) (now leads) count ⌝ }
+    ensures answers { λ _. ⌜ Led (now (table .entry)) (LedFor order (now (table .entry)) (now (rules .entry)) count) (now (leads .entry)) (now (leads .exit)) ⌝ }
+{
+    leads::lead_nested(table, starts, leads);
+    match order {
+        Order::Scan => leads::lead_listed(table, places, rules, count, leads),
+        Order::Lookup => {}
+    }
 }
 
 // The line's checks, in their order: 3, 4, 5, 19.

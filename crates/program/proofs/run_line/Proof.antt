@@ -22,7 +22,7 @@ choose-rules-requires : tie.Need-choose-rules-requires
 choose-rules-requires c κs = (c .before .before .before .before .before .before .before .before .before .before .before .before .before .pre .0 .prepared .table, (accepted-by _ _ _ _ (c .before .before .before .check .ensures) (c .before .enum-told .given .1) .bytes, c .before .before .before .before .before .before .before .before .before .before .before .before .before .pre .0 .ordered))
 
 read-line-requires : tie.Need-read-line-requires
-read-line-requires c κs = read-asked (c .before .before .before .before .before .before .before .before .before .before .before .before .before .before .before .before .before .before .before .pre .0 .prepared) (accepted-by _ _ _ _ (c .before .before .before .before .before .before .before .before .before .check .ensures) (c .before .before .before .before .before .before .before .enum-told .given .1)) (c .before .before .before .before .before .choose-rules .ensures) (c .before .before .before .before .before .before .before .before .before .before .before .before .before .before .before .before .before .before .before .pre .1)
+read-line-requires c κs = (read-asked (c .before .before .before .before .before .before .before .before .before .before .before .before .before .before .before .before .before .before .before .pre .0 .prepared) (accepted-by _ _ _ _ (c .before .before .before .before .before .before .before .before .before .check .ensures) (c .before .before .before .before .before .before .before .enum-told .given .1)) (c .before .before .before .before .before .choose-rules .ensures) (c .before .before .before .before .before .before .before .before .before .before .before .before .before .before .before .before .before .before .before .pre .1 .0), c .before .before .before .before .before .before .before .before .before .before .before .before .before .before .before .before .before .before .before .pre .1 .1)
 
 same-length : tie.Need-same-length
 same-length c = search needs

@@ -9,13 +9,13 @@ use Rattle.program.proofs.run_lines.Statement.{statement}
 use Rattle.program.proofs.run_lines.Tie as tie
 
 abbrev Inv-loop : tie.InvT-loop
-Inv-loop table text ends sheets budgets bases how starts places order tops rules₀ store₀ rows₀ answers₀ from₀ sheet₀ used₀ i₀ rules store rows answers from sheet used i = Turn how table text ends sheets budgets bases order answers₀ tops from sheet used i rules store rows answers
+Inv-loop table text ends sheets budgets bases how starts leads places order tops rules₀ store₀ rows₀ answers₀ from₀ sheet₀ used₀ i₀ rules store rows answers from sheet used i = Turn how table text ends sheets budgets bases order answers₀ tops from sheet used i rules store rows answers
 
 abbrev μ-loop : tie.MeasureT-loop
-μ-loop table text ends sheets budgets bases how starts places order tops rules₀ store₀ rows₀ answers₀ from₀ sheet₀ used₀ i₀ rules store rows answers from sheet used i = length ends - i
+μ-loop table text ends sheets budgets bases how starts leads places order tops rules₀ store₀ rows₀ answers₀ from₀ sheet₀ used₀ i₀ rules store rows answers from sheet used i = length ends - i
 
 loop-holds : tie.Need-loop-holds Inv-loop μ-loop
-loop-holds c = turn-first (c .before .before .before .before .before .before .before .before .before .before .before .before .before .pre .1 .1) (c .before .before .before .before .before .before .before .before .before .before .before .before .before .pre .0 .ordered) (c .before .before .before .before .before .before .before .before .before .before .before .before .before .pre .1 .0)
+loop-holds c = turn-first (c .before .before .before .before .before .before .before .before .before .before .before .before .before .pre .1 .1 .0) (c .before .before .before .before .before .before .before .before .before .before .before .before .before .pre .0 .ordered) (c .before .before .before .before .before .before .before .before .before .before .before .before .before .pre .1 .0)
 
 mul-end : tie.Need-mul-end Inv-loop μ-loop
 mul-end c = omega (arith, c .loop-test .taken)
@@ -84,7 +84,7 @@ part-run-line-end-3 : tie.Need-part-run-line-end-3 Inv-loop μ-loop
 part-run-line-end-3 c = omega arith
 
 run-line-requires : tie.Need-run-line-requires Inv-loop μ-loop
-run-line-requires c κs = (record { prepared = c .before .before .before .before .before .before .before .before .before .before .before .before .before .before .before .before .before .before .before .before .before .before .before .before .pre .0 .prepared; ordered = c .before .before .before .before .before .before .before .before .before .before .loop .inv .ordered }, c .before .before .before .before .before .before .before .before .before .before .loop .inv .stored)
+run-line-requires c κs = (record { prepared = c .before .before .before .before .before .before .before .before .before .before .before .before .before .before .before .before .before .before .before .before .before .before .before .before .pre .0 .prepared; ordered = c .before .before .before .before .before .before .before .before .before .before .loop .inv .ordered }, (c .before .before .before .before .before .before .before .before .before .before .loop .inv .stored, c .before .before .before .before .before .before .before .before .before .before .before .before .before .before .before .before .before .before .before .before .before .before .before .before .pre .1 .1 .1))
 
 row-of-requires : tie.Need-row-of-requires Inv-loop μ-loop
 row-of-requires c κs = search needs
@@ -123,7 +123,7 @@ same-length-2 : tie.Need-same-length-2 Inv-loop μ-loop
 same-length-2 c = omega (arith, c .before .loop .inv .stored, c .before .before .before .before .before .before .before .before .before .before .before .before .before .before .before .pre .1 .0)
 
 same-length-3 : tie.Need-same-length-3 Inv-loop μ-loop
-same-length-3 c = omega (arith, c .before .loop .inv .long, rows-first (c .before .before .before .before .before .before .before .before .before .before .before .before .before .before .before .args .text .now) (c .before .before .before .before .before .before .before .before .before .before .before .before .before .before .before .args .ends .now) (c .before .before .before .before .before .before .before .before .before .before .before .before .before .before .before .args .sheets .now) (c .before .before .before .before .before .before .before .before .before .before .before .before .before .before .before .args .budgets .now) (c .before .before .before .before .before .before .before .before .before .before .before .before .before .before .before .args .bases .now) (c .before .before .before .before .before .before .before .before .before .before .before .before .before .before .before .args .rows .now) (c .before .before .before .before .before .before .before .before .before .before .before .before .before .before .before .pre .1 .1))
+same-length-3 c = omega (arith, c .before .loop .inv .long, rows-first (c .before .before .before .before .before .before .before .before .before .before .before .before .before .before .before .args .text .now) (c .before .before .before .before .before .before .before .before .before .before .before .before .before .before .before .args .ends .now) (c .before .before .before .before .before .before .before .before .before .before .before .before .before .before .before .args .sheets .now) (c .before .before .before .before .before .before .before .before .before .before .before .before .before .before .before .args .budgets .now) (c .before .before .before .before .before .before .before .before .before .before .before .before .before .before .before .args .bases .now) (c .before .before .before .before .before .before .before .before .before .before .before .before .before .before .before .args .rows .now) (c .before .before .before .before .before .before .before .before .before .before .before .before .before .before .before .pre .1 .1 .0))
 
 same-length-4 : tie.Need-same-length-4 Inv-loop μ-loop
 same-length-4 c = c .before .loop .inv .whole

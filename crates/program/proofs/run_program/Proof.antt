@@ -4,6 +4,7 @@ use mathlib.Core.Path.{refl}
 use Rattle.plain.proofs.Calls.{refused, passed}
 use Rattle.trials.specs.Orders.{orderOf}
 use Rattle.runs.proofs.Wholes.{bad-table, bad-program, program-told}
+use Rattle.trials.proofs.Leading.{leads-none}
 use borrow.Author.Needs.{needs}
 use Rattle.program.proofs.run_program.Statement.{statement}
 use Rattle.program.proofs.run_program.Tie as tie
@@ -35,8 +36,11 @@ slice-aggregate-prepare-3 c = search needs
 slice-aggregate-prepare-4 : tie.Need-slice-aggregate-prepare-4
 slice-aggregate-prepare-4 c = search needs
 
+slice-aggregate-prepare-5 : tie.Need-slice-aggregate-prepare-5
+slice-aggregate-prepare-5 c = search needs
+
 prepare-requires : tie.Need-prepare-requires
-prepare-requires c κs = (passed (c .before .before .before .before .before .before .before .before .check-table .ensures) (c .before .before .before .before .before .before .before .if1 .left), (c .before .before .before .before .ruleset-starts .ensures, (refl, (refl, refl))))
+prepare-requires c κs = (passed (c .before .before .before .before .before .before .before .before .before .check-table .ensures) (c .before .before .before .before .before .before .before .before .if1 .left), (c .before .before .before .before .before .ruleset-starts .ensures, (refl, (refl, (refl, leads-none _)))))
 
 slice-aggregate-run-lines : tie.Need-slice-aggregate-run-lines
 slice-aggregate-run-lines c = search needs
@@ -54,10 +58,10 @@ slice-aggregate-run-lines-5 : tie.Need-slice-aggregate-run-lines-5
 slice-aggregate-run-lines-5 c = search needs
 
 run-lines-requires : tie.Need-run-lines-requires
-run-lines-requires c κs = (c .before .before .before .before .before .before .before .before .before .before .prepare .ensures, (refl, passed (c .before .before .before .before .before .before .before .before .before .before .before .before .before .before .before .before .before .check-program .ensures) (c .before .before .before .before .before .before .before .before .before .before .before .before .before .before .before .before .if2 .left)))
+run-lines-requires c κs = (c .before .before .before .before .before .before .before .before .before .before .before .before .prepare .ensures .0, (refl, (passed (c .before .before .before .before .before .before .before .before .before .before .before .before .before .before .before .before .before .before .before .before .check-program .ensures) (c .before .before .before .before .before .before .before .before .before .before .before .before .before .before .before .before .before .before .before .if2 .left), c .before .before .before .before .before .before .before .before .before .before .before .before .prepare .ensures .1)))
 
-cast-t47 : tie.Need-cast-t47
-cast-t47 c = omega (arith, c .before .before .before .before .before .before .run-lines .ensures .1)
+cast-t51 : tie.Need-cast-t51
+cast-t51 c = omega (arith, c .before .before .before .before .before .before .run-lines .ensures .1)
 
 same-length : tie.Need-same-length
 same-length c = search needs
@@ -66,7 +70,7 @@ same-length-2 : tie.Need-same-length-2
 same-length-2 c = search needs
 
 returns-3 : tie.Need-returns-3
-returns-3 c = program-told (orderOf (c .before .before .before .before .before .before .before .before .before .before .before .before .before .before .before .before .before .before .before .before .before .before .before .before .before .before .before .before .before .before .before .before .before .before .before .args .how)) _ _ _ _ _ _ _ _ (passed (c .before .before .before .before .before .before .before .before .before .before .before .before .before .before .before .before .before .before .before .before .before .before .before .before .before .before .check-table .ensures) (c .before .before .before .before .before .before .before .before .before .before .before .before .before .before .before .before .before .before .before .before .before .before .before .before .before .if1 .left)) (passed (c .before .before .before .before .before .before .before .before .before .before .before .before .before .before .before .before .before .before .before .before .before .before .before .before .check-program .ensures) (c .before .before .before .before .before .before .before .before .before .before .before .before .before .before .before .before .before .before .before .before .before .before .before .if2 .left)) (c .before .before .before .before .before .before .run-lines .ensures .0)
+returns-3 c = program-told (orderOf (c .before .before .before .before .before .before .before .before .before .before .before .before .before .before .before .before .before .before .before .before .before .before .before .before .before .before .before .before .before .before .before .before .before .before .before .before .before .before .args .how)) _ _ _ _ _ _ _ _ (passed (c .before .before .before .before .before .before .before .before .before .before .before .before .before .before .before .before .before .before .before .before .before .before .before .before .before .before .before .before .before .check-table .ensures) (c .before .before .before .before .before .before .before .before .before .before .before .before .before .before .before .before .before .before .before .before .before .before .before .before .before .before .before .before .if1 .left)) (passed (c .before .before .before .before .before .before .before .before .before .before .before .before .before .before .before .before .before .before .before .before .before .before .before .before .before .before .before .check-program .ensures) (c .before .before .before .before .before .before .before .before .before .before .before .before .before .before .before .before .before .before .before .before .before .before .before .before .before .before .if2 .left)) (c .before .before .before .before .before .before .run-lines .ensures .0)
 
 pub run-program-spec : {M : Type 1} → statement M
 run-program-spec =
@@ -81,6 +85,7 @@ run-program-spec =
     slice-aggregate-prepare-2
     slice-aggregate-prepare-3
     slice-aggregate-prepare-4
+    slice-aggregate-prepare-5
     prepare-requires
     slice-aggregate-run-lines
     slice-aggregate-run-lines-2
@@ -88,7 +93,7 @@ run-program-spec =
     slice-aggregate-run-lines-4
     slice-aggregate-run-lines-5
     run-lines-requires
-    cast-t47
+    cast-t51
     same-length
     same-length-2
     returns-3)
