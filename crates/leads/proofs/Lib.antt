@@ -1,5 +1,5 @@
 pub mod Keys
-pub mod Ahead
+pub mod Seen
 pub mod Words
 pub mod Laying
 pub mod Nested

@@ -14,7 +14,8 @@ use Rattle.defs.specs.Table.{tableFits, recordsIn, ruleParts}
 use Rattle.ruledef_map.specs.RuledefMap.{rulePrefix}
 use Rattle.sorting.proofs.Insertions.{every-none}
 use Rattle.readings.specs.Fail.{ahead, failing}
-use Rattle.leads.specs.Leads.{keyOf, keyAt, failingBy, LeadOf}
+use Rattle.leads.specs.declared.Ahead.{Ahead}
+use Rattle.leads.specs.Leads.{keyOf, keyAt, failingBy, aheadOf, failingOf, LeadOf}
 use Rattle.leads.proofs.Keys.{isByte}
 use Rattle.leads.proofs.Bytes.{rule-bytes, rule-short}
 use Rattle.leads.proofs.Words.{failing-by, failing-none}
@@ -51,17 +52,32 @@ small-ahead : (line : List ℕ) (l c : ℕ) → ((i : ℕ) → getD line i 0 < 2
 unfolding ahead Small
 small-ahead line l c s = small-take 4 (map lowered (keepIf isSolid (drop c (take l line)))) (small-kept (drop c (take l line)) (small-drop c (take l line) (small-take l line s)))
 
+-- ---- what is asked for is known
+
+module _ (line : List ℕ) (l c : ℕ) where
+  pub ahead-known : {wanted : Bool} {key : ℕ} → wanted ≡ true → key ≡ keyOf (ahead line l c) → _≡_ {A = Ahead} (record { known = true; key = key }) (aheadOf wanted line l c)
+  ahead-known e is = rw (e, is)
+
+  pub ahead-unknown : {wanted : Bool} → wanted ≡ false → _≡_ {A = Ahead} (record { known = false; key = 0 }) (aheadOf wanted line l c)
+  ahead-unknown e = rw e
+
 -- ---- so a lead tells
 
 module _ (t line : List ℕ) (ok : tableFits t ≡ true) (bytes : (i : ℕ) → getD line i 0 < 256) (l c i : ℕ) (known : i < recordsIn t) where
-  pub lead-tells : {lead key m : ℕ} → LeadOf t i lead → key ≡ keyOf (ahead line l c) → m ≡ failingBy lead key → 0 < m → m ≡ failing (rulePrefix (ruleParts t i)) (ahead line l c)
+  -- of a line's number
+  key-tells : {lead m : ℕ} → LeadOf t i lead → m ≡ failingBy lead (keyOf (ahead line l c)) → 0 < m → m ≡ failing (rulePrefix (ruleParts t i)) (ahead line l c)
   unfolding keyAt keyOf
-  lead-tells {lead} {key} {m} (inl none) key-is is some = absurd (omega (arith, nothing))
+  key-tells {lead} {m} (inl none) is some = absurd (omega (arith, nothing))
     where
       nothing : m ≡ 0
       nothing =
-          is ∙ ap (λ (w : ℕ). failingBy w key) none ∙ ap (failingBy 0) key-is
+          is ∙ ap (λ (w : ℕ). failingBy w (keyOf (ahead line l c))) none
           ∙ failing-by [] (ahead line l c) (every-none isByte) (small-ahead line l c bytes) (omega arith) ∙ failing-none (ahead line l c)
-  lead-tells {lead} {key} {m} (inr this) key-is is some =
-      is ∙ ap (λ (w : ℕ). failingBy w key) this ∙ ap (failingBy (keyOf (rulePrefix (ruleParts t i)))) key-is
+  key-tells {lead} {m} (inr this) is some =
+      is ∙ ap (λ (w : ℕ). failingBy w (keyOf (ahead line l c))) this
       ∙ failing-by (rulePrefix (ruleParts t i)) (ahead line l c) (rule-bytes t ok i known) (small-ahead line l c bytes) (rule-short t i)
+
+  pub lead-tells : {lead m : ℕ} {a : Ahead} (wanted : Bool) → LeadOf t i lead → a ≡ aheadOf wanted line l c → m ≡ failingOf lead a → 0 < m → m ≡ failing (rulePrefix (ruleParts t i)) (ahead line l c)
+  unfolding failingOf
+  lead-tells {lead} {m} true led a-is is some = key-tells led (is ∙ ap (failingOf lead) a-is) some
+  lead-tells {lead} {m} false led a-is is some = let none : m ≡ 0 = is ∙ ap (failingOf lead) a-is in absurd (omega arith)

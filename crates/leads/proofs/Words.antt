@@ -13,7 +13,8 @@ use Rattle.plain.specs.Lists.{every}
 use Rattle.plain.proofs.Tests.{tested}
 use Rattle.sorting.proofs.Insertions.{every-head, every-tail}
 use Rattle.readings.specs.Fail.{agreed, failing}
-use Rattle.leads.specs.Leads.{keyOf, failingBy}
+use Rattle.leads.specs.declared.Ahead.{Ahead}
+use Rattle.leads.specs.Leads.{keyOf, failingBy, failingOf}
 use Rattle.leads.proofs.Keys.{isByte, byte-some, small-at}
 
 -- ---- how a rule fails, byte by byte
@@ -213,26 +214,31 @@ module _ (key v : ℕ) where
   pub ended-no : (key % 256 ≡ 0 → ⊥) → v ≡ select (eqb (key % 256) 0) 0 v
   ended-no d = rw (ne-eqb (key % 256) 0 d)
 
-module _ (rule line : ℕ) {r : ℕ} where
-  pub differ-first : (rule / 16777216 ≡ line / 16777216 → ⊥) → r ≡ select (eqb (rule / 16777216 % 256) 0) 0 1 → r ≡ failingBy rule line
-  unfolding failingBy
-  differ-first d e = rw (ne-eqb (rule / 16777216) (line / 16777216) d) e
+module _ (rule : ℕ) (x : Ahead) {r : ℕ} where
+  pub nothing-known : x .known ≡ false → r ≡ 0 → r ≡ failingOf rule x
+  unfolding failingOf
+  nothing-known e z = rw e z
 
-  module _ (a : rule / 16777216 ≡ line / 16777216) where
-    pub differ-second : (rule / 65536 ≡ line / 65536 → ⊥) → r ≡ select (eqb (rule / 65536 % 256) 0) 0 2 → r ≡ failingBy rule line
-    unfolding failingBy
-    differ-second d e = rw (eq-eqb (rule / 16777216) (line / 16777216) a, ne-eqb (rule / 65536) (line / 65536) d) e
+module _ (rule : ℕ) (x : Ahead) {r : ℕ} (told : x .known ≡ true) where
+  pub differ-first : (rule / 16777216 ≡ x .key / 16777216 → ⊥) → r ≡ select (eqb (rule / 16777216 % 256) 0) 0 1 → r ≡ failingOf rule x
+  unfolding failingOf failingBy
+  differ-first d e = rw (told, ne-eqb (rule / 16777216) (x .key / 16777216) d) e
 
-    module _ (b : rule / 65536 ≡ line / 65536) where
-      pub differ-third : (rule / 256 ≡ line / 256 → ⊥) → r ≡ select (eqb (rule / 256 % 256) 0) 0 3 → r ≡ failingBy rule line
-      unfolding failingBy
-      differ-third d e = rw (eq-eqb (rule / 16777216) (line / 16777216) a, eq-eqb (rule / 65536) (line / 65536) b, ne-eqb (rule / 256) (line / 256) d) e
+  module _ (a : rule / 16777216 ≡ x .key / 16777216) where
+    pub differ-second : (rule / 65536 ≡ x .key / 65536 → ⊥) → r ≡ select (eqb (rule / 65536 % 256) 0) 0 2 → r ≡ failingOf rule x
+    unfolding failingOf failingBy
+    differ-second d e = rw (told, eq-eqb (rule / 16777216) (x .key / 16777216) a, ne-eqb (rule / 65536) (x .key / 65536) d) e
 
-      module _ (c : rule / 256 ≡ line / 256) where
-        pub differ-fourth : (rule ≡ line → ⊥) → r ≡ select (eqb (rule % 256) 0) 0 4 → r ≡ failingBy rule line
-        unfolding failingBy
-        differ-fourth d e = rw (eq-eqb (rule / 16777216) (line / 16777216) a, eq-eqb (rule / 65536) (line / 65536) b, eq-eqb (rule / 256) (line / 256) c, ne-eqb rule line d) e
+    module _ (b : rule / 65536 ≡ x .key / 65536) where
+      pub differ-third : (rule / 256 ≡ x .key / 256 → ⊥) → r ≡ select (eqb (rule / 256 % 256) 0) 0 3 → r ≡ failingOf rule x
+      unfolding failingOf failingBy
+      differ-third d e = rw (told, eq-eqb (rule / 16777216) (x .key / 16777216) a, eq-eqb (rule / 65536) (x .key / 65536) b, ne-eqb (rule / 256) (x .key / 256) d) e
 
-        pub differ-nowhere : rule ≡ line → r ≡ 0 → r ≡ failingBy rule line
-        unfolding failingBy
-        differ-nowhere d e = rw (eq-eqb (rule / 16777216) (line / 16777216) a, eq-eqb (rule / 65536) (line / 65536) b, eq-eqb (rule / 256) (line / 256) c, eq-eqb rule line d) e
+      module _ (c : rule / 256 ≡ x .key / 256) where
+        pub differ-fourth : (rule ≡ x .key → ⊥) → r ≡ select (eqb (rule % 256) 0) 0 4 → r ≡ failingOf rule x
+        unfolding failingOf failingBy
+        differ-fourth d e = rw (told, eq-eqb (rule / 16777216) (x .key / 16777216) a, eq-eqb (rule / 65536) (x .key / 65536) b, eq-eqb (rule / 256) (x .key / 256) c, ne-eqb rule (x .key) d) e
+
+        pub differ-nowhere : rule ≡ x .key → r ≡ 0 → r ≡ failingOf rule x
+        unfolding failingOf failingBy
+        differ-nowhere d e = rw (told, eq-eqb (rule / 16777216) (x .key / 16777216) a, eq-eqb (rule / 65536) (x .key / 65536) b, eq-eqb (rule / 256) (x .key / 256) c, eq-eqb rule (x .key) d) e

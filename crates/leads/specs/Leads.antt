@@ -1,6 +1,6 @@
 -- Prefixes as numbers, so that a rule that fails in its leading exact parts is told by one comparison of words.
 use mathlib.Core.Path.{_≡_}
-use mathlib.Core.Bool.{true, false}
+use mathlib.Core.Bool.{Bool, true, false}
 use mathlib.Core.Logic.{_⊎_}
 use mathlib.Core.List.{List}
 use Prim.Native.Nat.{ℕ, _+_, _*_, _/_, _%_, _≤_, _<_}
@@ -10,7 +10,9 @@ use Rattle.plain.specs.Choice.{select}
 use Rattle.defs.specs.Table.{tableFits, recordsIn, ruleParts}
 use Rattle.defs.specs.Ruledef.{startsOf, isTopRule}
 use Rattle.ruledef_map.specs.RuledefMap.{rulePrefix}
+use Rattle.readings.specs.Fail.{ahead}
 use Rattle.places.specs.Places.{Placed}
+use Rattle.leads.specs.declared.Ahead.{Ahead}
 
 -- a prefix as one number: four bytes, the first weighs most, a missing byte is 0
 unfoldable pub keyOf : List ℕ → ℕ
@@ -35,6 +37,13 @@ failingBy rule line =
     (select (eqb (rule / 256) (line / 256)) (select (eqb rule line) 0 (unlessEnded rule 4)) (unlessEnded (rule / 256) 3))
     (unlessEnded (rule / 65536) 2))
     (unlessEnded (rule / 16777216) 1)
+
+-- what the line has ahead, if it is asked for; and the visits by that
+abbrev pub aheadOf : Bool → List ℕ → ℕ → ℕ → Ahead
+aheadOf wanted line l c = record { known = wanted; key = select wanted (keyOf (ahead line l c)) 0 }
+
+unfoldable pub failingOf : ℕ → Ahead → ℕ
+failingOf rule a = select (a .known) (failingBy rule (a .key)) 0
 
 -- ---- what is prepared
 

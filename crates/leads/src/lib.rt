@@ -15,7 +15,7 @@ ghost use Rattle.defs.specs.Table.{tableFits, recordsIn, partsBetween};
 ghost use Rattle.ruledef_map.specs.RuledefMap.{rulePrefix};
 ghost use Rattle.useful.specs.Useful.{Lent};
 ghost use Rattle.readings.specs.Fail.{ahead};
-ghost use Rattle.leads.specs.Leads.{keyOf, failingBy, Led, Among, Between, Nested, ListAsked, NestAsked};
+ghost use Rattle.leads.specs.Leads.{keyOf, aheadOf, failingOf, Led, Among, Between, Nested, ListAsked, NestAsked};
 
 // A key's bytes, and what a byte weighs against the next.
 const BYTES: usize = 4;
@@ -57,12 +57,19 @@ pub fn prefix_key(table: &[u16], from: usize, to: usize) -> usize
     key
 }
 
-// What the line has ahead of a walker, as a number: its first four non-whitespace bytes from the cursor on and below the limit.
-pub fn line_key(line: &[u8], places: &[u8; useful::PLACES], walker: Walker) -> u32
+// What the line has ahead of a walker: its first four non-whitespace bytes from the cursor on and below the limit, as a number;
+// known only if it is asked for.
+pub struct Ahead {
+    pub known: bool,
+    pub key: u32,
+}
+
+// The line's bytes as a number.
+fn line_key(line: &[u8], places: &[u8; useful::PLACES], walker: Walker) -> u32
     requires { ⌜ Lent (now line) (now places) ⌝ }
     requires { ⌜ walker .cursor ≤ walker .limit ⌝ }
     requires { ⌜ walker .limit ≤ length (now line) ⌝ }
-    ensures answers { λ r. ⌜ r ≡ keyOf (ahead (now (line .entry)) (walker .limit) (walker .cursor)) ⌝ }
+    ensures { λ r. ⌜ r ≡ keyOf (ahead (now (line .entry)) (walker .limit) (walker .cursor)) ⌝ }
 {
     let limit = walker.limit;
     let mut cursor = walker.cursor;
@@ -83,6 +90,30 @@ pub fn line_key(line: &[u8], places: &[u8; useful::PLACES], walker: Walker) -> u
     key as u32
 }
 
+// What the line has ahead, if that is wanted: it costs as much as walking a rule or two, so it pays where many rules are tried.
+pub fn look_ahead(
+    line: &[u8],
+    places: &[u8; useful::PLACES],
+    walker: Walker,
+    wanted: bool,
+) -> Ahead
+    requires { ⌜ Lent (now line) (now places) ⌝ }
+    requires { ⌜ walker .cursor ≤ walker .limit ⌝ }
+    requires { ⌜ walker .limit ≤ length (now line) ⌝ }
+    ensures answers { λ r. ⌜ r ≡ aheadOf wanted (now (line .entry)) (walker .limit) (walker .cursor) ⌝ }
+{
+    if wanted {
+        return Ahead {
+            known: true,
+            key: line_key(line, places, walker),
+        };
+    }
+    Ahead {
+        known: false,
+        key: 0,
+    }
+}
+
 // The visits, unless the key's last byte is 0: then the rule's prefix has ended, and the rule does not fail there.
 fn unless_ended(key: u32, visits: usize) -> usize
     ensures { λ r. ⌜ r ≡ select (eqb (key % 256) 0) 0 visits ⌝ }
@@ -93,10 +124,15 @@ fn unless_ended(key: u32, visits: usize) -> usize
     visits
 }
 
-// The visits of a rule that fails in its leading exact parts, told by its key and the line's; 0 of one that does not.
-pub fn failing_visits(rule: u32, line: u32) -> usize
-    ensures answers { λ r. ⌜ r ≡ failingBy rule line ⌝ }
+// The visits of a rule that fails in its leading exact parts, told by its lead and by what the line has ahead; 0 of one that
+// does not, or if nothing is known.
+pub fn failing_visits(rule: u32, ahead: Ahead) -> usize
+    ensures answers { λ r. ⌜ r ≡ failingOf rule ahead ⌝ }
 {
+    if !ahead.known {
+        return 0;
+    }
+    let line = ahead.key;
     if rule / FIRST != line / FIRST {
         return unless_ended(rule / FIRST, 1);
     }

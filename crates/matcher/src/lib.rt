@@ -76,6 +76,7 @@ fn call(
         &places,
         &rules,
         count,
+        order,
         &mut store,
         answer,
     )

@@ -167,6 +167,7 @@ fn run_line(
         places,
         rules,
         count,
+        how,
         store,
         answer,
     )

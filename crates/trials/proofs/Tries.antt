@@ -1,5 +1,6 @@
 -- The rules that were chosen, each walked on the whole line at depth 0 from its prepared place. The pool is empty at the start, so the log is what the walks left, and its matches of depth 0 are those that the plan lists.
 use mathlib.Core.Path.{_≡_, refl, sym, ap, ap₂, subst, _∙_}
+use mathlib.Core.Bool.{Bool}
 use mathlib.Core.List.{List, [], _∷_, _++_, map, map-id}
 use Prim.Native.Nat.{ℕ, _+_, _*_, _-_, _≤_, _<_}
 use native.Mathlib.Omega.{arith}
@@ -36,7 +37,8 @@ use Rattle.walk.specs.declared.Refusal.{Refusal}
 use Rattle.walk.specs.declared.Refusal.the-variants.{Spent}
 use Rattle.walk.specs.Met.{finishes, partsPlan, rulePlan, ran, Ready, toCome, Stands, Made, wholeAt, Left}
 use Rattle.ruledef_map.specs.RuledefMap.{rulePrefix}
-use Rattle.leads.specs.Leads.{keyOf, failingBy, Leads}
+use Rattle.leads.specs.declared.Ahead.{Ahead}
+use Rattle.leads.specs.Leads.{aheadOf, failingOf, Leads}
 use Rattle.leads.proofs.Told.{lead-tells}
 use Rattle.places.specs.Places.{PlacedAt}
 use Rattle.places.proofs.Words.{table-short}
@@ -94,10 +96,10 @@ module _ {t line sheet starts places store₀ rules : List ℕ} {count visits : 
 
       -- a rule that fails in its leading exact parts, told by its lead, is counted without a walk
       module _ {leads : List ℕ} (led : Leads t leads) (bytes : (j : ℕ) → getD line j 0 < 256) (w : Walker) (start : w .cursor ≡ 0) (end-of : w .limit ≡ length line)
-          {key fails : ℕ} (key-is : key ≡ keyOf (ahead line (w .limit) (w .cursor))) (fails-are : fails ≡ failingBy (getD leads rule 0) key) (some : 0 < fails) where
+          (wanted : Bool) {a : Ahead} {fails : ℕ} (a-is : a ≡ aheadOf wanted line (w .limit) (w .cursor)) (fails-are : fails ≡ failingOf (getD leads rule 0) a) (some : 0 < fails) where
         fails-so : fails ≡ failing (rulePrefix (s .parts (pairOf t rule .0) (pairOf t rule .1))) (ahead line (length line) 0)
         fails-so =
-            lead-tells t line (asked .accepted .table) bytes (length line) 0 rule known (led .each rule) (key-is ∙ ap₂ (λ (l c : ℕ). keyOf (ahead line l c)) end-of start) fails-are some
+            lead-tells t line (asked .accepted .table) bytes (length line) 0 rule known wanted (led .each rule) (a-is ∙ ap₂ (aheadOf wanted line) end-of start) fails-are some
             ∙ ap (λ (ps : List Part). failing (rulePrefix ps) (ahead line (length line) 0)) (sym (pair-parts t line sheet (asked .accepted .table) rule known))
 
         pub tries-skip : fails ≤ v → TriesDid t line sheet (take count rules) visits u₀ store₀ (i + 1) (v - fails) u store

@@ -1,7 +1,7 @@
 -- Which rules a call tries, and in what order: all top rules, or those that the line's prefixes lead to. And which leads it
 -- prepares.
 use mathlib.Core.Path.{_≡_}
-use mathlib.Core.Bool.{true}
+use mathlib.Core.Bool.{Bool, true, false}
 use mathlib.Core.Logic.{_⊎_}
 use mathlib.Core.List.{List}
 use Prim.Native.Nat.{ℕ, _≤_, _<_}
@@ -25,6 +25,11 @@ orderOf Lookup s = foundPairs s (linePrefix (s .line))
 abbrev pub rulesOf : Order → List ℕ → List ℕ → List ℕ
 rulesOf Scan t line = topRules t
 rulesOf Lookup t line = foundRules t (linePrefix line)
+
+-- all top rules are tried
+abbrev pub isScan : Order → Bool
+isScan Scan = true
+isScan Lookup = false
 
 -- the rules whose leads are laid: nested ones, and those that a scan tries. The rules that a lookup finds begin as the line does.
 abbrev pub LedFor : Order → List ℕ → List ℕ → ℕ → ℕ → Type 0

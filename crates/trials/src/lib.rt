@@ -24,7 +24,7 @@ ghost use Rattle.readings.specs.Call.{matched};
 ghost use Rattle.leads.specs.Leads.{Leads, Led};
 ghost use Rattle.walk.specs.Met.{Prepared};
 ghost use Rattle.answer.specs.Measured.{treesIn};
-ghost use Rattle.trials.specs.Orders.{LedFor, LeadAsked};
+ghost use Rattle.trials.specs.Orders.{isScan, LedFor, LeadAsked};
 ghost use Rattle.trials.specs.Told.{says, checkedOf, TryAsked, Tried, TellAsked, ReadAsked, stoppedBy, listedCall, triedPairs};
 
 const MOST_VISITS: u32 = 1_000_000;
@@ -114,6 +114,16 @@ pub fn check(line: &[u8], sheet: &[u8], budget: u32, base: u32) -> Checked
     Checked::Good
 }
 
+// Whether a call tries all top rules. Those that a lookup found begin as the line does.
+fn scans(order: Order) -> bool
+    ensures { λ r. ⌜ r ≡ isScan order ⌝ }
+{
+    match order {
+        Order::Scan => true,
+        Order::Lookup => false,
+    }
+}
+
 // The rule walk for each rule, on the whole line from its start: a top rule has depth 0 and must end at the line's end. A rule
 // that fails in its leading exact parts takes no walk to count.
 fn try_rules(
@@ -127,6 +137,7 @@ fn try_rules(
     store: &mut [usize],
     rules: &[u16],
     count: usize,
+    order: Order,
     visits: usize,
 ) -> Walked
     requires { ⌜ TryAsked (now table) (now line) (now sheet) (now starts) (now places) (now store) (now rules) count visits ⌝ }
@@ -134,7 +145,7 @@ fn try_rules(
     ensures { λ r. ⌜ Tried (now (table .entry)) (run (tries (sceneOf (now (table .entry)) (now (line .entry)) (now (sheet .entry))) (triedPairs (now (table .entry)) (now (rules .entry)) count)) visits 0) (now (store .exit)) r ⌝ }
 {
     let walker = Walker::new(line);
-    let ahead = leads::line_key(line, useful, walker);
+    let ahead = leads::look_ahead(line, useful, walker, scans(order));
     let mut left = visits;
     let mut has = Pool::new();
     let mut i = 0;
@@ -238,6 +249,7 @@ pub fn read_line(
     places: &[u16],
     rules: &[u16],
     count: usize,
+    order: Order,
     store: &mut [usize],
     answer: &mut [u32],
 ) -> Answer
@@ -258,6 +270,7 @@ pub fn read_line(
         store,
         rules,
         count,
+        order,
         visits,
     );
     match walked {

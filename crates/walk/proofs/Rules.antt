@@ -26,7 +26,8 @@ use Rattle.readings.proofs.Fails.{fails-done, fails-stop}
 use Rattle.readings.proofs.Packed.{lawful}
 use Rattle.readings.proofs.Records.{rules-range, rule-parts, begins-order, few-records, span-within}
 use Rattle.ruledef_map.specs.RuledefMap.{rulePrefix}
-use Rattle.leads.specs.Leads.{keyOf, failingBy, Leads}
+use Rattle.leads.specs.declared.Ahead.{Ahead}
+use Rattle.leads.specs.Leads.{aheadOf, failingOf, Leads}
 use Rattle.leads.proofs.Told.{lead-tells}
 use Rattle.lookahead.specs.declared.Limits.{Limits}
 use Rattle.lookahead.specs.Held.{heldLimits}
@@ -126,11 +127,11 @@ module _ {t line sheet starts store₀ : List ℕ} {place : Place} {w : Walker} 
 
       -- a rule that fails in its leading exact parts, told by its lead, is counted without a walk
       module _ (inner : Walker) (from : inner .cursor ≤ inner .limit) (within : inner .limit ≤ w .limit) {leads : List ℕ} (led : Leads t leads) (bytes : (i : ℕ) → getD line i 0 < 256)
-          {key fails : ℕ} (key-is : key ≡ keyOf (ahead line (inner .limit) (inner .cursor))) (fails-are : fails ≡ failingBy (getD leads (begin + k) 0) key) (some : 0 < fails)
+          (wanted : Bool) {a : Ahead} {fails : ℕ} (a-is : a ≡ aheadOf wanted line (inner .limit) (inner .cursor)) (fails-are : fails ≡ failingOf (getD leads (begin + k) 0) a) (some : 0 < fails)
           {v₁ u₁ v u : ℕ} {store₁ store : List ℕ} (did : RulesDid t line sheet d group inner n v₁ u₁ store₁ k v u store) where
         fails-so : fails ≡ failing (rulePrefix (s .parts group k)) (ahead line (inner .limit) (inner .cursor))
         fails-so =
-            lead-tells t line (ready .table) bytes (inner .limit) (inner .cursor) (begin + k) record-below (led .each (begin + k)) key-is fails-are some
+            lead-tells t line (ready .table) bytes (inner .limit) (inner .cursor) (begin + k) record-below wanted (led .each (begin + k)) a-is fails-are some
             ∙ ap (λ (ps : List Part). failing (rulePrefix ps) (ahead line (inner .limit) (inner .cursor))) parts-named
 
         low : inner .limit ≤ length line

@@ -23,6 +23,9 @@ ghost use Rattle.pool.specs.Log.{decode, logOf};
 ghost use Rattle.pool.specs.Meaning.{Stored, entries, treeAt, gathered};
 ghost use Rattle.walk.specs.Met.{Ready, Prepared, Stands, toCome, fromExpr, fromNest, Ended, Left, finishPlan, rulePlan, exprPlan, nestedPlan, ran, pastAt, afterArg, made, InnerOf};
 
+// A ruleset with no more rules is tried without a look ahead.
+const FEW: usize = 2;
+
 // Where a walk stands: a rule, by its ruleset and its number there; the places of its part words that are still to come; how
 // deep it is nested; its last argument so far, as the pool counts arguments.
 pub struct Place {
@@ -201,8 +204,7 @@ pub fn match_with_rule(
     let mut at = place.at;
     // Exact parts passed from here on, apart from `exact`, so that a rule that fails at once copies no count.
     let mut passed: usize = 0;
-    // Held once, so that the compiler need not hold the limit anew at each part.
-    let mut here = walker.set_cursor_index(line, walker.get_cursor_index());
+    let mut here = walker;
     let end = place.end;
     loop {
         if left == 0 {
@@ -387,7 +389,7 @@ fn match_with_nested_ruledef(
     while pass < limits.count {
         let inner = walker.set_cursor_limit(line, limits.places[pass]);
         pass += 1;
-        let ahead = leads::line_key(line, useful, inner);
+        let ahead = leads::look_ahead(line, useful, inner, FEW < count);
         let mut rule = 0;
         while rule < count {
             let number = begin + rule;

@@ -5,7 +5,7 @@ use native.Mathlib.Omega.{arith}
 use Rattle.readings.specs.Fail.{ahead}
 use Rattle.leads.specs.Leads.{keyOf}
 use Rattle.leads.proofs.Keys.{filling-fits, filling-all}
-use Rattle.leads.proofs.Ahead.{LineFilling, line-start, line-byte, line-end}
+use Rattle.leads.proofs.Seen.{LineFilling, line-start, line-byte, line-end}
 use Rattle.leads.proofs.line_key.Statement.{statement}
 use Rattle.leads.proofs.line_key.Tie as tie
 

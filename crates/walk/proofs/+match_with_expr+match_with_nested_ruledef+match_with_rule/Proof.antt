@@ -7,7 +7,7 @@ use lib.ListN.{length}
 use borrow.Author.Needs.{needs}
 use borrow.Fn.Kinds.{In}
 use borrow.Fn.PlainCycle.{Measures, is, falls, and}
-use Rattle.walk.proofs.Places.{begun-ready, begun-stands, begun-left, Along, along-by, along-start, along-stored, along-small, along-ended, along-spent, along-end, along-exact, along-no-exact, along-whitespace, along-no-whitespace, along-expression, along-nested, step-ready, step-stands, ruleset-few}
+use Rattle.walk.proofs.Places.{Along, along-by, along-start, along-stored, along-small, along-ended, along-spent, along-end, along-exact, along-no-exact, along-whitespace, along-no-whitespace, along-expression, along-nested, step-ready, step-stands, ruleset-few}
 use Rattle.walk.proofs.Exprs.{ExprDid, expr-start, expr-end, expr-fits, expr-full, expr-counted, expr-stands, expr-ready, expr-again, expr-halt, ends-three}
 use Rattle.walk.proofs.Rules.{RulesDid, LimitsDid, starts-long, starts-ordered, starts-few, rule-ready, rule-stands, rules-again, rules-stop, rules-skip, rules-spent, lead-there, rules-start, limits-start, limits-again, limits-stop, limits-two, inner-within}
 use Rattle.walk.proofs.Nests.{NestDid, nest-start, nest-skip, inner-counts-first, nest-fits, nest-member, nest-full, nest-counted, nest-stands, nest-ready, nest-again, nest-halt, nest-used, nested-deep, nested-stop, nested-grown, nested-since, nested-within, nested-below, nested-halt, nested-done}
@@ -22,7 +22,7 @@ use Rattle.walk.proofs.match_with_rule.Kinds as rule-kinds
 use Rattle.walk.proofs.+match_with_expr+match_with_nested_ruledef+match_with_rule.Lts-match_with_rule as R
 use Rattle.defs.proofs.ruledef.part_at.Reads as part-at
 use Rattle.defs.proofs.ruledef.parts_of.Reads as parts-of
-use Rattle.leads.proofs.line_key.Reads as line-key
+use Rattle.leads.proofs.look_ahead.Reads as look-ahead
 use Rattle.leads.proofs.failing_visits.Reads as failing-visits
 use Rattle.lookahead.proofs.find_ends.Reads as find-ends
 use Rattle.lookahead.proofs.find_limits.Reads as find-limits
@@ -34,7 +34,6 @@ use Rattle.syntax.proofs.walker.least.Reads as least
 use Rattle.pool.proofs.Pool.keep.Reads as keep
 use Rattle.useful.proofs.maybe_expect_char.Reads as maybe-expect-char
 use Rattle.syntax.proofs.walker.Walker.maybe_expect_whitespace.Reads as maybe-expect-whitespace
-use Rattle.syntax.proofs.walker.Walker.get_cursor_index.Reads as get-cursor-index
 use Rattle.useful.proofs.next_useful_index.Reads as next-useful-index
 use Rattle.syntax.proofs.walker.Walker.set_cursor_index.Reads as set-cursor-index
 use Rattle.syntax.proofs.walker.Walker.set_cursor_limit.Reads as set-cursor-limit
@@ -73,10 +72,10 @@ abbrev e-calls : ℕ → E.Claims
 e-calls t = (next-useful-index.Asked, next-useful-index.Learnt, find-ends.Asked, find-ends.Learnt, least.Asked, least.Learnt, keep.Asked, keep.Learnt, after.Asked, after.Learnt, set-cursor-index.Asked, set-cursor-index.Learnt, r-below t, rule.Post)
 
 abbrev n-calls : ℕ → N.Claims
-n-calls t = (next-useful-index.Asked, next-useful-index.Learnt, find-limits.Asked, find-limits.Learnt, set-cursor-limit.Asked, set-cursor-limit.Learnt, line-key.Asked, line-key.Learnt, failing-visits.Asked, failing-visits.Learnt, parts-of.Asked, parts-of.Learnt, r-below t, rule.Post, inner-match.Asked, inner-match.Learnt, least.Asked, least.Learnt, keep.Asked, keep.Learnt, after.Asked, after.Learnt, set-cursor-index.Asked, set-cursor-index.Learnt)
+n-calls t = (next-useful-index.Asked, next-useful-index.Learnt, find-limits.Asked, find-limits.Learnt, set-cursor-limit.Asked, set-cursor-limit.Learnt, look-ahead.Asked, look-ahead.Learnt, failing-visits.Asked, failing-visits.Learnt, parts-of.Asked, parts-of.Learnt, r-below t, rule.Post, inner-match.Asked, inner-match.Learnt, least.Asked, least.Learnt, keep.Asked, keep.Learnt, after.Asked, after.Learnt, set-cursor-index.Asked, set-cursor-index.Learnt)
 
 abbrev r-calls : ℕ → R.Claims
-r-calls t = (get-cursor-index.Asked, get-cursor-index.Learnt, set-cursor-index.Asked, set-cursor-index.Learnt, finish.Asked, finish.Learnt, part-at.Asked, part-at.Learnt, maybe-expect-char.Asked, maybe-expect-char.Learnt, maybe-expect-whitespace.Asked, maybe-expect-whitespace.Learnt, past.Asked, past.Learnt, e-below t, expr.Post, n-below t, nested.Post)
+r-calls t = (finish.Asked, finish.Learnt, part-at.Asked, part-at.Learnt, maybe-expect-char.Asked, maybe-expect-char.Learnt, maybe-expect-whitespace.Asked, maybe-expect-whitespace.Learnt, past.Asked, past.Learnt, e-below t, expr.Post, n-below t, nested.Post)
 
 abbrev e-Inv : E.InvT-loop
 e-Inv table line places sheet starts leads store₀ place exact walker visits begins ends left₀ has₀ i₀ store left has i =
@@ -381,8 +380,8 @@ n-add-pass t c =
     let c-loop-test = c .before .before .loop-test in
     omega (arith, limits-two (c-pre .1 .0) _ (c-pre .1 .1 .1 .0) (c-if1 .left) _ _ refl refl _ (c-find-limits .ensures), c-loop-test .taken)
 
-n-line-key-requires : (t : ℕ) → N.Need-line-key-requires (n-calls t) (n-at t) nested.Post n-Inv2 n-μ2 n-Inv n-μ n-Inv3 n-μ3
-n-line-key-requires t c κs =
+n-look-ahead-requires : (t : ℕ) → N.Need-look-ahead-requires (n-calls t) (n-at t) nested.Post n-Inv2 n-μ2 n-Inv n-μ n-Inv3 n-μ3
+n-look-ahead-requires t c κs =
     let c-pre = c .before .before .before .before .before .before .before .before .before .before .before .before .before .before .pre in
     let c-if1 = c .before .before .before .before .before .before .before .before .if1 in
     let c-find-limits = c .before .before .before .before .before .before .find-limits in
@@ -459,14 +458,14 @@ n-returns-2 t c =
     let c-loop2 = c .before .before .before .before .before .loop2 in
     let c-loop2-test = c .before .before .before .before .loop2-test in
     let c-shared-slice-known2 = c .before .before .before .before .before .before .before .before .before .before .before .before .before .before .before .before .before .before .before .shared-slice-known2 in
-    let c-line-key = c .before .before .before .before .before .before .line-key in
+    let c-look-ahead = c .before .before .before .before .before .before .look-ahead in
     let c-failing-visits = c .before .before .failing-visits in
     let c-if2 = c .before .if2 in
     let c-if3 = c .if3 in
     let (a, b) = inner-within (c-pre .1 .0) _ (c-pre .1 .1 .1 .0) (c-if1 .left) _ _ refl refl _ (c-find-limits .ensures) _ (c-loop-test .taken) _ refl _ (c-set-cursor-limit .ensures) in
     nested-stop (c-pre .1 .0) _ _ (c-pre .1 .1 .1 .0) (c-if1 .left) _ _ refl refl _ (c-next-useful-index .ensures) _ (c-find-limits .ensures) _
     (limits-stop (c-pre .1 .0) _ (c-pre .1 .1 .1 .0) (c-if1 .left) _ _ refl refl _ (c-find-limits .ensures) _ (c-loop-test .taken) _ refl _ (c-set-cursor-limit .ensures) (c-loop .inv)
-    (rules-spent (c-pre .1 .0) _ (c-pre .1 .1 .1 .0) (c-if1 .left) _ _ refl refl (c-loop2 .rule) (c-loop2-test .taken) _ a b (c-pre .1 .1 .1 .1 .leads) (λ i. omega (arith, c-shared-slice-known2 .given i)) (c-line-key .ensures) (c-failing-visits .ensures) (c-if2 .taken) (c-loop2 .inv) (c-if3 .taken)))
+    (rules-spent (c-pre .1 .0) _ (c-pre .1 .1 .1 .0) (c-if1 .left) _ _ refl refl (c-loop2 .rule) (c-loop2-test .taken) _ a b (c-pre .1 .1 .1 .1 .leads) (λ i. omega (arith, c-shared-slice-known2 .given i)) _ (c-look-ahead .ensures) (c-failing-visits .ensures) (c-if2 .taken) (c-loop2 .inv) (c-if3 .taken)))
 
 n-add-rule : (t : ℕ) → N.Need-add-rule (n-calls t) (n-at t) nested.Post n-Inv2 n-μ2 n-Inv n-μ n-Inv3 n-μ3
 n-add-rule t c =
@@ -491,12 +490,12 @@ n-loop2-again t c =
     let c-loop2 = c .before .before .before .before .before .loop2 in
     let c-loop2-test = c .before .before .before .before .loop2-test in
     let c-shared-slice-known2 = c .before .before .before .before .before .before .before .before .before .before .before .before .before .before .before .before .before .before .before .shared-slice-known2 in
-    let c-line-key = c .before .before .before .before .before .before .line-key in
+    let c-look-ahead = c .before .before .before .before .before .before .look-ahead in
     let c-failing-visits = c .before .before .failing-visits in
     let c-if2 = c .before .if2 in
     let c-if3 = c .if3 in
     let (a, b) = inner-within (c-pre .1 .0) _ (c-pre .1 .1 .1 .0) (c-if1 .left) _ _ refl refl _ (c-find-limits .ensures) _ (c-loop-test .taken) _ refl _ (c-set-cursor-limit .ensures) in
-    rules-skip (c-pre .1 .0) _ (c-pre .1 .1 .1 .0) (c-if1 .left) _ _ refl refl (c-loop2 .rule) (c-loop2-test .taken) _ a b (c-pre .1 .1 .1 .1 .leads) (λ i. omega (arith, c-shared-slice-known2 .given i)) (c-line-key .ensures) (c-failing-visits .ensures) (c-if2 .taken) (c-loop2 .inv) (c-if3 .left)
+    rules-skip (c-pre .1 .0) _ (c-pre .1 .1 .1 .0) (c-if1 .left) _ _ refl refl (c-loop2 .rule) (c-loop2-test .taken) _ a b (c-pre .1 .1 .1 .1 .leads) (λ i. omega (arith, c-shared-slice-known2 .given i)) _ (c-look-ahead .ensures) (c-failing-visits .ensures) (c-if2 .taken) (c-loop2 .inv) (c-if3 .left)
 
 n-cast-parts-of : (t : ℕ) → N.Need-cast-parts-of (n-calls t) (n-at t) nested.Post n-Inv2 n-μ2 n-Inv n-μ n-Inv3 n-μ3
 n-cast-parts-of t c =
@@ -835,18 +834,10 @@ n-returns-6 t c =
     let c-loop3-test = c .loop3-test in
     nested-done (c-pre .1 .0) _ _ (c-pre .1 .1 .1 .0) (c-if1 .left) _ _ refl refl _ (c-next-useful-index .ensures) _ (c-find-limits .ensures) (c-loop .inv) (c-loop-test .left) _ (c-loop3 .inv) (c-loop3-test .left)
 
-r-get-cursor-index-requires : (t : ℕ) → R.Need-get-cursor-index-requires (r-calls t) (r-at t) rule.Post r-Inv r-μ
-r-get-cursor-index-requires t c κs = search needs
-
-r-set-cursor-index-requires : (t : ℕ) → R.Need-set-cursor-index-requires (r-calls t) (r-at t) rule.Post r-Inv r-μ
-r-set-cursor-index-requires t c κs = search needs
-
 r-loop-holds : (t : ℕ) → R.Need-loop-holds (r-calls t) (r-at t) rule.Post r-Inv r-μ
 r-loop-holds t c =
-    let c-pre = c .before .before .before .before .before .before .before .pre in
-    let c-get-cursor-index = c .before .get-cursor-index in
-    let c-set-cursor-index = c .set-cursor-index in
-    along-by (omega arith) (along-start (begun-ready (c-pre .1 .0) (c-get-cursor-index .ensures) (c-set-cursor-index .ensures)) _ (begun-stands (c-pre .1 .0) (c-get-cursor-index .ensures) (c-set-cursor-index .ensures) (c-pre .1 .1 .0)))
+    let c-pre = c .before .before .before .before .before .pre in
+    along-by (omega arith) (along-start (c-pre .1 .0) _ (c-pre .1 .1 .0))
 
 r-same-length : (t : ℕ) → R.Need-same-length (r-calls t) (r-at t) rule.Post r-Inv r-μ
 r-same-length t c =
@@ -855,32 +846,26 @@ r-same-length t c =
 
 r-returns : (t : ℕ) → R.Need-returns (r-calls t) (r-at t) rule.Post r-Inv r-μ
 r-returns t c =
-    let c-pre = c .before .before .before .before .before .before .before .before .before .pre in
-    let c-get-cursor-index = c .before .before .before .get-cursor-index in
-    let c-set-cursor-index = c .before .before .set-cursor-index in
+    let c-pre = c .before .before .before .before .before .before .before .pre in
     let c-loop = c .before .loop in
     let c-if1 = c .if1 in
-    begun-left (c-pre .1 .0) (c-get-cursor-index .ensures) (c-set-cursor-index .ensures) _ (along-spent (begun-ready (c-pre .1 .0) (c-get-cursor-index .ensures) (c-set-cursor-index .ensures)) _ (c-loop .inv) (c-if1 .taken))
+    (along-spent (c-pre .1 .0) _ (c-loop .inv) (c-if1 .taken))
 
 r-sub-left : (t : ℕ) → R.Need-sub-left (r-calls t) (r-at t) rule.Post r-Inv r-μ
 r-sub-left t c = search needs
 
 r-add-finish : (t : ℕ) → R.Need-add-finish (r-calls t) (r-at t) rule.Post r-Inv r-μ
 r-add-finish t c =
-    let c-pre = c .before .before .before .before .before .before .before .before .before .before .before .pre in
-    let c-get-cursor-index = c .before .before .before .before .before .get-cursor-index in
-    let c-set-cursor-index = c .before .before .before .before .set-cursor-index in
+    let c-pre = c .before .before .before .before .before .before .before .before .before .pre in
     let c-loop = c .before .before .before .loop in
-    omega (arith, along-small (begun-ready (c-pre .1 .0) (c-get-cursor-index .ensures) (c-set-cursor-index .ensures)) _ (c-loop .inv))
+    omega (arith, along-small (c-pre .1 .0) _ (c-loop .inv))
 
 r-finish-requires : (t : ℕ) → R.Need-finish-requires (r-calls t) (r-at t) rule.Post r-Inv r-μ
 r-finish-requires t c κs =
-    let c-pre = c .before .before .before .before .before .before .before .before .before .before .before .pre in
-    let c-get-cursor-index = c .before .before .before .before .before .get-cursor-index in
-    let c-set-cursor-index = c .before .before .before .before .set-cursor-index in
+    let c-pre = c .before .before .before .before .before .before .before .before .before .pre in
     let c-loop = c .before .before .before .loop in
     let c-if2 = c .before .if2 in
-    (along-stored (begun-ready (c-pre .1 .0) (c-get-cursor-index .ensures) (c-set-cursor-index .ensures)) _ (c-loop .inv), (c-pre .1 .0 .sets, (c-pre .1 .0 .rules, (c-pre .1 .0 .depth, (c-pre .1 .0 .last, (omega (arith, c-loop .inv .inside, (begun-ready (c-pre .1 .0) (c-get-cursor-index .ensures) (c-set-cursor-index .ensures)) .limit, c-pre .1 .0 .short), (omega (arith, c-loop .inv .inside, c-loop .inv .under), ((λ z. c-loop .inv .under ∙ (begun-ready (c-pre .1 .0) (c-get-cursor-index .ensures) (c-set-cursor-index .ensures)) .top z), (omega (arith, along-small (begun-ready (c-pre .1 .0) (c-get-cursor-index .ensures) (c-set-cursor-index .ensures)) _ (c-loop .inv)), along-ended (begun-ready (c-pre .1 .0) (c-get-cursor-index .ensures) (c-set-cursor-index .ensures)) _ (c-loop .inv) (c-if2 .taken))))))))))
+    (along-stored (c-pre .1 .0) _ (c-loop .inv), (c-pre .1 .0 .sets, (c-pre .1 .0 .rules, (c-pre .1 .0 .depth, (c-pre .1 .0 .last, (omega (arith, c-loop .inv .inside, c-pre .1 .0 .limit, c-pre .1 .0 .short), (omega (arith, c-loop .inv .inside, c-loop .inv .under), ((λ z. c-loop .inv .under ∙ c-pre .1 .0 .top z), (omega (arith, along-small (c-pre .1 .0) _ (c-loop .inv)), along-ended (c-pre .1 .0) _ (c-loop .inv) (c-if2 .taken))))))))))
 
 r-same-length-2 : (t : ℕ) → R.Need-same-length-2 (r-calls t) (r-at t) rule.Post r-Inv r-μ
 r-same-length-2 t c =
@@ -890,14 +875,12 @@ r-same-length-2 t c =
 
 r-returns-2 : (t : ℕ) → R.Need-returns-2 (r-calls t) (r-at t) rule.Post r-Inv r-μ
 r-returns-2 t c =
-    let c-pre = c .before .before .before .before .before .before .before .before .before .before .before .before .before .before .pre in
-    let c-get-cursor-index = c .before .before .before .before .before .before .before .before .get-cursor-index in
-    let c-set-cursor-index = c .before .before .before .before .before .before .before .set-cursor-index in
+    let c-pre = c .before .before .before .before .before .before .before .before .before .before .before .before .pre in
     let c-loop = c .before .before .before .before .before .before .loop in
     let c-if1 = c .before .before .before .before .before .if1 in
     let c-if2 = c .before .before .before .before .if2 in
     let c-finish = c .before .before .finish in
-    begun-left (c-pre .1 .0) (c-get-cursor-index .ensures) (c-set-cursor-index .ensures) _ (along-end (begun-ready (c-pre .1 .0) (c-get-cursor-index .ensures) (c-set-cursor-index .ensures)) _ (c-loop .inv) (c-if1 .left) (c-if2 .taken) (c-finish .ensures))
+    (along-end (c-pre .1 .0) _ (c-loop .inv) (c-if1 .left) (c-if2 .taken) (c-finish .ensures))
 
 r-part-at-requires : (t : ℕ) → R.Need-part-at-requires (r-calls t) (r-at t) rule.Post r-Inv r-μ
 r-part-at-requires t c κs = search needs
@@ -913,22 +896,18 @@ r-enum-known-part t c = search needs
 
 r-maybe-expect-char-requires : (t : ℕ) → R.Need-maybe-expect-char-requires (r-calls t) (r-at t) rule.Post r-Inv r-μ
 r-maybe-expect-char-requires t c κs =
-    let c-pre = c .before .before .before .before .before .before .before .before .before .before .before .before .before .before .pre in
+    let c-pre = c .before .before .before .before .before .before .before .before .before .before .before .before .pre in
     let c-loop = c .before .before .before .before .before .before .loop in
-    let c-get-cursor-index = c .before .before .before .before .before .before .before .before .get-cursor-index in
-    let c-set-cursor-index = c .before .before .before .before .before .before .before .set-cursor-index in
-    (c-pre .1 .1 .1 .places, (omega (arith, c-loop .inv .inside, c-loop .inv .under), omega (arith, (begun-ready (c-pre .1 .0) (c-get-cursor-index .ensures) (c-set-cursor-index .ensures)) .limit, c-loop .inv .under)))
+    (c-pre .1 .1 .1 .places, (omega (arith, c-loop .inv .inside, c-loop .inv .under), omega (arith, c-pre .1 .0 .limit, c-loop .inv .under)))
 
 r-enum-known-step : (t : ℕ) → R.Need-enum-known-step (r-calls t) (r-at t) rule.Post r-Inv r-μ
 r-enum-known-step t c = search needs
 
 r-add-passed : (t : ℕ) → R.Need-add-passed (r-calls t) (r-at t) rule.Post r-Inv r-μ
 r-add-passed t c =
-    let c-pre = c .before .before .before .before .before .before .before .before .before .before .before .before .before .before .before .before .before .before .pre in
-    let c-get-cursor-index = c .before .before .before .before .before .before .before .before .before .before .before .before .get-cursor-index in
-    let c-set-cursor-index = c .before .before .before .before .before .before .before .before .before .before .before .set-cursor-index in
+    let c-pre = c .before .before .before .before .before .before .before .before .before .before .before .before .before .before .before .before .pre in
     let c-loop = c .before .before .before .before .before .before .before .before .before .before .loop in
-    omega (arith, along-small (begun-ready (c-pre .1 .0) (c-get-cursor-index .ensures) (c-set-cursor-index .ensures)) _ (c-loop .inv))
+    omega (arith, along-small (c-pre .1 .0) _ (c-loop .inv))
 
 r-loop-less : (t : ℕ) → R.Need-loop-less (r-calls t) (r-at t) rule.Post r-Inv r-μ
 r-loop-less t c =
@@ -937,9 +916,7 @@ r-loop-less t c =
 
 r-loop-again : (t : ℕ) → R.Need-loop-again (r-calls t) (r-at t) rule.Post r-Inv r-μ
 r-loop-again t c =
-    let c-pre = c .before .before .before .before .before .before .before .before .before .before .before .before .before .before .before .before .before .before .pre in
-    let c-get-cursor-index = c .before .before .before .before .before .before .before .before .before .before .before .before .get-cursor-index in
-    let c-set-cursor-index = c .before .before .before .before .before .before .before .before .before .before .before .set-cursor-index in
+    let c-pre = c .before .before .before .before .before .before .before .before .before .before .before .before .before .before .before .before .pre in
     let c-loop = c .before .before .before .before .before .before .before .before .before .before .loop in
     let c-if1 = c .before .before .before .before .before .before .before .before .before .if1 in
     let c-if2 = c .before .before .before .before .before .before .before .before .if2 in
@@ -947,7 +924,7 @@ r-loop-again t c =
     let c-part = c .before .before .before .before .before .part in
     let c-maybe-expect-char = c .before .before .before .maybe-expect-char in
     let c-step = c .before .step in
-    along-by (omega arith) (along-exact (begun-ready (c-pre .1 .0) (c-get-cursor-index .ensures) (c-set-cursor-index .ensures)) _ (c-loop .inv) (c-if1 .left) (c-if2 .left) _ (c-part-at .ensures) (c-part .given .1) _ (c-maybe-expect-char .ensures) (c-step .given .1))
+    along-by (omega arith) (along-exact (c-pre .1 .0) _ (c-loop .inv) (c-if1 .left) (c-if2 .left) _ (c-part-at .ensures) (c-part .given .1) _ (c-maybe-expect-char .ensures) (c-step .given .1))
 
 r-enum-told : (t : ℕ) → R.Need-enum-told (r-calls t) (r-at t) rule.Post r-Inv r-μ
 r-enum-told t c = search needs
@@ -959,9 +936,7 @@ r-same-length-3 t c =
 
 r-returns-3 : (t : ℕ) → R.Need-returns-3 (r-calls t) (r-at t) rule.Post r-Inv r-μ
 r-returns-3 t c =
-    let c-pre = c .before .before .before .before .before .before .before .before .before .before .before .before .before .before .before .before .before .pre in
-    let c-get-cursor-index = c .before .before .before .before .before .before .before .before .before .before .before .get-cursor-index in
-    let c-set-cursor-index = c .before .before .before .before .before .before .before .before .before .before .set-cursor-index in
+    let c-pre = c .before .before .before .before .before .before .before .before .before .before .before .before .before .before .before .pre in
     let c-loop = c .before .before .before .before .before .before .before .before .before .loop in
     let c-if1 = c .before .before .before .before .before .before .before .before .if1 in
     let c-if2 = c .before .before .before .before .before .before .before .if2 in
@@ -969,7 +944,7 @@ r-returns-3 t c =
     let c-part = c .before .before .before .before .part in
     let c-maybe-expect-char = c .before .before .maybe-expect-char in
     let c-enum-told = c .enum-told in
-    begun-left (c-pre .1 .0) (c-get-cursor-index .ensures) (c-set-cursor-index .ensures) _ (along-no-exact (begun-ready (c-pre .1 .0) (c-get-cursor-index .ensures) (c-set-cursor-index .ensures)) _ (c-loop .inv) (c-if1 .left) (c-if2 .left) _ (c-part-at .ensures) (c-part .given .1) _ (c-maybe-expect-char .ensures) (c-enum-told .given .1))
+    (along-no-exact (c-pre .1 .0) _ (c-loop .inv) (c-if1 .left) (c-if2 .left) _ (c-part-at .ensures) (c-part .given .1) _ (c-maybe-expect-char .ensures) (c-enum-told .given .1))
 
 r-enum-told-2 : (t : ℕ) → R.Need-enum-told-2 (r-calls t) (r-at t) rule.Post r-Inv r-μ
 r-enum-told-2 t c = search needs
@@ -987,9 +962,7 @@ r-loop-less-2 t c =
 
 r-loop-again-2 : (t : ℕ) → R.Need-loop-again-2 (r-calls t) (r-at t) rule.Post r-Inv r-μ
 r-loop-again-2 t c =
-    let c-pre = c .before .before .before .before .before .before .before .before .before .before .before .before .before .before .before .before .before .pre in
-    let c-get-cursor-index = c .before .before .before .before .before .before .before .before .before .before .before .get-cursor-index in
-    let c-set-cursor-index = c .before .before .before .before .before .before .before .before .before .before .set-cursor-index in
+    let c-pre = c .before .before .before .before .before .before .before .before .before .before .before .before .before .before .before .pre in
     let c-loop = c .before .before .before .before .before .before .before .before .before .loop in
     let c-if1 = c .before .before .before .before .before .before .before .before .if1 in
     let c-if2 = c .before .before .before .before .before .before .before .if2 in
@@ -997,7 +970,7 @@ r-loop-again-2 t c =
     let c-enum-told2 = c .before .before .before .before .enum-told2 in
     let c-maybe-expect-whitespace = c .before .before .before .maybe-expect-whitespace in
     let c-step2 = c .before .step2 in
-    along-whitespace (begun-ready (c-pre .1 .0) (c-get-cursor-index .ensures) (c-set-cursor-index .ensures)) _ (c-loop .inv) (c-if1 .left) (c-if2 .left) _ (c-part-at .ensures) (c-enum-told2 .given .1) _ (c-maybe-expect-whitespace .ensures) (c-step2 .given .1)
+    along-whitespace (c-pre .1 .0) _ (c-loop .inv) (c-if1 .left) (c-if2 .left) _ (c-part-at .ensures) (c-enum-told2 .given .1) _ (c-maybe-expect-whitespace .ensures) (c-step2 .given .1)
 
 r-enum-told-3 : (t : ℕ) → R.Need-enum-told-3 (r-calls t) (r-at t) rule.Post r-Inv r-μ
 r-enum-told-3 t c = search needs
@@ -1009,9 +982,7 @@ r-same-length-4 t c =
 
 r-returns-4 : (t : ℕ) → R.Need-returns-4 (r-calls t) (r-at t) rule.Post r-Inv r-μ
 r-returns-4 t c =
-    let c-pre = c .before .before .before .before .before .before .before .before .before .before .before .before .before .before .before .before .pre in
-    let c-get-cursor-index = c .before .before .before .before .before .before .before .before .before .before .get-cursor-index in
-    let c-set-cursor-index = c .before .before .before .before .before .before .before .before .before .set-cursor-index in
+    let c-pre = c .before .before .before .before .before .before .before .before .before .before .before .before .before .before .pre in
     let c-loop = c .before .before .before .before .before .before .before .before .loop in
     let c-if1 = c .before .before .before .before .before .before .before .if1 in
     let c-if2 = c .before .before .before .before .before .before .if2 in
@@ -1019,7 +990,7 @@ r-returns-4 t c =
     let c-enum-told2 = c .before .before .before .enum-told2 in
     let c-maybe-expect-whitespace = c .before .before .maybe-expect-whitespace in
     let c-enum-told3 = c .enum-told3 in
-    begun-left (c-pre .1 .0) (c-get-cursor-index .ensures) (c-set-cursor-index .ensures) _ (along-no-whitespace (begun-ready (c-pre .1 .0) (c-get-cursor-index .ensures) (c-set-cursor-index .ensures)) _ (c-loop .inv) (c-if1 .left) (c-if2 .left) _ (c-part-at .ensures) (c-enum-told2 .given .1) _ (c-maybe-expect-whitespace .ensures) (c-enum-told3 .given .1))
+    (along-no-whitespace (c-pre .1 .0) _ (c-loop .inv) (c-if1 .left) (c-if2 .left) _ (c-part-at .ensures) (c-enum-told2 .given .1) _ (c-maybe-expect-whitespace .ensures) (c-enum-told3 .given .1))
 
 r-enum-told-4 : (t : ℕ) → R.Need-enum-told-4 (r-calls t) (r-at t) rule.Post r-Inv r-μ
 r-enum-told-4 t c = search needs
@@ -1029,24 +1000,20 @@ r-past-requires t c κs = search needs
 
 r-add-match-with-expr : (t : ℕ) → R.Need-add-match-with-expr (r-calls t) (r-at t) rule.Post r-Inv r-μ
 r-add-match-with-expr t c =
-    let c-pre = c .before .before .before .before .before .before .before .before .before .before .before .before .before .before .before .pre in
-    let c-get-cursor-index = c .before .before .before .before .before .before .before .before .before .get-cursor-index in
-    let c-set-cursor-index = c .before .before .before .before .before .before .before .before .set-cursor-index in
+    let c-pre = c .before .before .before .before .before .before .before .before .before .before .before .before .before .pre in
     let c-loop = c .before .before .before .before .before .before .before .loop in
-    omega (arith, along-small (begun-ready (c-pre .1 .0) (c-get-cursor-index .ensures) (c-set-cursor-index .ensures)) _ (c-loop .inv))
+    omega (arith, along-small (c-pre .1 .0) _ (c-loop .inv))
 
 r-match-with-expr-requires : (t : ℕ) → R.Need-match-with-expr-requires (r-calls t) (r-at t) rule.Post r-Inv r-μ
 r-match-with-expr-requires t c κs =
     let c-loop = c .before .before .before .before .before .before .before .loop in
     let c-if1 = c .before .before .before .before .before .before .if1 in
-    let c-pre = c .before .before .before .before .before .before .before .before .before .before .before .before .before .before .before .pre in
-    let c-get-cursor-index = c .before .before .before .before .before .before .before .before .before .get-cursor-index in
-    let c-set-cursor-index = c .before .before .before .before .before .before .before .before .set-cursor-index in
+    let c-pre = c .before .before .before .before .before .before .before .before .before .before .before .before .before .pre in
     let c-if2 = c .before .before .before .before .before .if2 in
     let c-part-at = c .before .before .before .before .part-at in
     let c-past = c .before .past in
     let c-enum-told4 = c .before .before .enum-told4 in
-    (omega (arith, c-loop .inv .falls, c-if1 .left, c-pre .0), (step-ready (begun-ready (c-pre .1 .0) (c-get-cursor-index .ensures) (c-set-cursor-index .ensures)) _ (c-loop .inv) (c-if1 .left) (c-if2 .left) _ (c-part-at .ensures) (c-past .ensures), (step-stands (begun-ready (c-pre .1 .0) (c-get-cursor-index .ensures) (c-set-cursor-index .ensures)) _ (c-loop .inv) (c-if1 .left) (c-if2 .left) _ (c-part-at .ensures) (c-enum-told4 .given .1) (c-past .ensures), c-pre .1 .1 .1)))
+    (omega (arith, c-loop .inv .falls, c-if1 .left, c-pre .0), (step-ready (c-pre .1 .0) _ (c-loop .inv) (c-if1 .left) (c-if2 .left) _ (c-part-at .ensures) (c-past .ensures), (step-stands (c-pre .1 .0) _ (c-loop .inv) (c-if1 .left) (c-if2 .left) _ (c-part-at .ensures) (c-enum-told4 .given .1) (c-past .ensures), c-pre .1 .1 .1)))
 
 r-same-length-5 : (t : ℕ) → R.Need-same-length-5 (r-calls t) (r-at t) rule.Post r-Inv r-μ
 r-same-length-5 t c =
@@ -1056,9 +1023,7 @@ r-same-length-5 t c =
 
 r-returns-5 : (t : ℕ) → R.Need-returns-5 (r-calls t) (r-at t) rule.Post r-Inv r-μ
 r-returns-5 t c =
-    let c-pre = c .before .before .before .before .before .before .before .before .before .before .before .before .before .before .before .before .before .before .pre in
-    let c-get-cursor-index = c .before .before .before .before .before .before .before .before .before .before .before .before .get-cursor-index in
-    let c-set-cursor-index = c .before .before .before .before .before .before .before .before .before .before .before .set-cursor-index in
+    let c-pre = c .before .before .before .before .before .before .before .before .before .before .before .before .before .before .before .before .pre in
     let c-loop = c .before .before .before .before .before .before .before .before .before .before .loop in
     let c-if1 = c .before .before .before .before .before .before .before .before .before .if1 in
     let c-if2 = c .before .before .before .before .before .before .before .before .if2 in
@@ -1066,7 +1031,7 @@ r-returns-5 t c =
     let c-enum-told4 = c .before .before .before .before .before .enum-told4 in
     let c-past = c .before .before .before .before .past in
     let c-match-with-expr = c .before .before .match-with-expr in
-    begun-left (c-pre .1 .0) (c-get-cursor-index .ensures) (c-set-cursor-index .ensures) _ (along-expression (begun-ready (c-pre .1 .0) (c-get-cursor-index .ensures) (c-set-cursor-index .ensures)) _ (c-loop .inv) (c-if1 .left) (c-if2 .left) _ (c-part-at .ensures) (c-enum-told4 .given .1) (c-past .ensures) (c-match-with-expr .ensures))
+    (along-expression (c-pre .1 .0) _ (c-loop .inv) (c-if1 .left) (c-if2 .left) _ (c-part-at .ensures) (c-enum-told4 .given .1) (c-past .ensures) (c-match-with-expr .ensures))
 
 r-enum-known-part-2 : (t : ℕ) → R.Need-enum-known-part-2 (r-calls t) (r-at t) rule.Post r-Inv r-μ
 r-enum-known-part-2 t c = search needs
@@ -1076,27 +1041,23 @@ r-past-requires-2 t c κs = search needs
 
 r-add-match-with-nested-ruledef : (t : ℕ) → R.Need-add-match-with-nested-ruledef (r-calls t) (r-at t) rule.Post r-Inv r-μ
 r-add-match-with-nested-ruledef t c =
-    let c-pre = c .before .before .before .before .before .before .before .before .before .before .before .before .before .before .before .before .pre in
-    let c-get-cursor-index = c .before .before .before .before .before .before .before .before .before .before .get-cursor-index in
-    let c-set-cursor-index = c .before .before .before .before .before .before .before .before .before .set-cursor-index in
+    let c-pre = c .before .before .before .before .before .before .before .before .before .before .before .before .before .before .pre in
     let c-loop = c .before .before .before .before .before .before .before .before .loop in
-    omega (arith, along-small (begun-ready (c-pre .1 .0) (c-get-cursor-index .ensures) (c-set-cursor-index .ensures)) _ (c-loop .inv))
+    omega (arith, along-small (c-pre .1 .0) _ (c-loop .inv))
 
 r-match-with-nested-ruledef-requires : (t : ℕ) → R.Need-match-with-nested-ruledef-requires (r-calls t) (r-at t) rule.Post r-Inv r-μ
 r-match-with-nested-ruledef-requires t c κs =
     let c-loop = c .before .before .before .before .before .before .before .before .loop in
     let c-if1 = c .before .before .before .before .before .before .before .if1 in
-    let c-pre = c .before .before .before .before .before .before .before .before .before .before .before .before .before .before .before .before .pre in
-    let c-get-cursor-index = c .before .before .before .before .before .before .before .before .before .before .get-cursor-index in
-    let c-set-cursor-index = c .before .before .before .before .before .before .before .before .before .set-cursor-index in
+    let c-pre = c .before .before .before .before .before .before .before .before .before .before .before .before .before .before .pre in
     let c-if2 = c .before .before .before .before .before .before .if2 in
     let c-part-at = c .before .before .before .before .before .part-at in
     let c-past2 = c .before .past2 in
     let c-part2 = c .before .before .before .part2 in
-    let c-args = c .before .before .before .before .before .before .before .before .before .before .before .before .before .before .before .before .args in
+    let c-args = c .before .before .before .before .before .before .before .before .before .before .before .before .before .before .args in
     (
       omega (arith, c-loop .inv .falls, c-if1 .left, c-pre .0),
-      (step-ready (begun-ready (c-pre .1 .0) (c-get-cursor-index .ensures) (c-set-cursor-index .ensures)) _ (c-loop .inv) (c-if1 .left) (c-if2 .left) _ (c-part-at .ensures) (c-past2 .ensures), (step-stands (begun-ready (c-pre .1 .0) (c-get-cursor-index .ensures) (c-set-cursor-index .ensures)) _ (c-loop .inv) (c-if1 .left) (c-if2 .left) _ (c-part-at .ensures) (c-part2 .given .1) (c-past2 .ensures), (ruleset-few (begun-ready (c-pre .1 .0) (c-get-cursor-index .ensures) (c-set-cursor-index .ensures)) (c-args .visits) (c-loop .inv) (c-if1 .left) (c-if2 .left) _ (c-part-at .ensures) (c-part2 .given .1), c-pre .1 .1 .1))),
+      (step-ready (c-pre .1 .0) _ (c-loop .inv) (c-if1 .left) (c-if2 .left) _ (c-part-at .ensures) (c-past2 .ensures), (step-stands (c-pre .1 .0) _ (c-loop .inv) (c-if1 .left) (c-if2 .left) _ (c-part-at .ensures) (c-part2 .given .1) (c-past2 .ensures), (ruleset-few (c-pre .1 .0) (c-args .visits) (c-loop .inv) (c-if1 .left) (c-if2 .left) _ (c-part-at .ensures) (c-part2 .given .1), c-pre .1 .1 .1))),
     )
 
 r-same-length-6 : (t : ℕ) → R.Need-same-length-6 (r-calls t) (r-at t) rule.Post r-Inv r-μ
@@ -1107,9 +1068,7 @@ r-same-length-6 t c =
 
 r-returns-6 : (t : ℕ) → R.Need-returns-6 (r-calls t) (r-at t) rule.Post r-Inv r-μ
 r-returns-6 t c =
-    let c-pre = c .before .before .before .before .before .before .before .before .before .before .before .before .before .before .before .before .before .before .before .pre in
-    let c-get-cursor-index = c .before .before .before .before .before .before .before .before .before .before .before .before .before .get-cursor-index in
-    let c-set-cursor-index = c .before .before .before .before .before .before .before .before .before .before .before .before .set-cursor-index in
+    let c-pre = c .before .before .before .before .before .before .before .before .before .before .before .before .before .before .before .before .before .pre in
     let c-loop = c .before .before .before .before .before .before .before .before .before .before .before .loop in
     let c-if1 = c .before .before .before .before .before .before .before .before .before .before .if1 in
     let c-if2 = c .before .before .before .before .before .before .before .before .before .if2 in
@@ -1117,7 +1076,7 @@ r-returns-6 t c =
     let c-part2 = c .before .before .before .before .before .before .part2 in
     let c-past2 = c .before .before .before .before .past2 in
     let c-match-with-nested-ruledef = c .before .before .match-with-nested-ruledef in
-    begun-left (c-pre .1 .0) (c-get-cursor-index .ensures) (c-set-cursor-index .ensures) _ (along-nested (begun-ready (c-pre .1 .0) (c-get-cursor-index .ensures) (c-set-cursor-index .ensures)) _ (c-loop .inv) (c-if1 .left) (c-if2 .left) _ (c-part-at .ensures) (c-part2 .given .1) (c-past2 .ensures) (c-match-with-nested-ruledef .ensures))
+    (along-nested (c-pre .1 .0) _ (c-loop .inv) (c-if1 .left) (c-if2 .left) _ (c-part-at .ensures) (c-part2 .given .1) (c-past2 .ensures) (c-match-with-nested-ruledef .ensures))
 
 pub +match-with-expr+match-with-nested-ruledef+match-with-rule-spec : {M : Type 1} → statement M
 +match-with-expr+match-with-nested-ruledef+match-with-rule-spec =
@@ -1125,6 +1084,6 @@ pub +match-with-expr+match-with-nested-ruledef+match-with-rule-spec : {M : Type 
     (λ t. E.spec (e-calls t) (e-at t) expr.Post e-Inv e-μ
         (e-next-useful-index-requires t) (e-find-ends-requires t) (e-loop-holds t) (e-mul-end t) (e-element-copy-out-end t) (e-add-i t) (e-least-requires t) (e-keep-requires t) (e-enum-told t) (e-same-length t) (e-returns t) (e-enum-known-room t) (e-after-requires t) (e-set-cursor-index-requires t) (e-match-with-rule-requires t) (e-enum-known-got t) (e-loop-less t) (e-loop-again t) (e-enum-known-got-2 t) (e-same-length-2 t) (e-returns-2 t) (e-same-length-3 t) (e-returns-3 t))
     (λ t. N.spec (n-calls t) (n-at t) nested.Post n-Inv2 n-μ2 n-Inv n-μ n-Inv3 n-μ3
-        (n-returns t) (n-next-useful-index-requires t) (n-find-limits-requires t) (n-mul-begin t) (n-shared-slice-read-begin t) (n-cast-begin t) (n-add-count t) (n-mul-count t) (n-shared-slice-read-count t) (n-cast-count t) (n-sub-count t) (n-loop-holds t) (n-mul-set-cursor-limit t) (n-element-copy-out-set-cursor-limit t) (n-set-cursor-limit-requires t) (n-add-pass t) (n-line-key-requires t) (n-loop2-holds t) (n-loop-less t) (n-loop-again t) (n-add-number t) (n-mul-failing-visits t) (n-element-copy-out-failing-visits t) (n-failing-visits-requires t) (n-same-length t) (n-returns-2 t) (n-add-rule t) (n-loop2-less t) (n-loop2-again t) (n-cast-parts-of t) (n-parts-of-requires t) (n-add-t68 t) (n-add-rule-2 t) (n-match-with-rule-requires t) (n-enum-known-got t) (n-loop2-less-2 t) (n-loop2-again-2 t) (n-enum-known-got-2 t) (n-same-length-2 t) (n-returns-3 t) (n-loop3-holds t) (n-add-m t) (n-add-inner-match t) (n-inner-match-requires t) (n-enum-told t) (n-loop3-less t) (n-loop3-again t) (n-enum-known-found t) (n-least-requires t) (n-add-sum t) (n-keep-requires t) (n-enum-told-2 t) (n-same-length-3 t) (n-returns-4 t) (n-enum-known-room t) (n-after-requires t) (n-set-cursor-index-requires t) (n-match-with-rule-requires-2 t) (n-enum-known-got-3 t) (n-loop3-less-2 t) (n-loop3-again-2 t) (n-enum-known-got-4 t) (n-same-length-4 t) (n-returns-5 t) (n-same-length-5 t) (n-returns-6 t))
+        (n-returns t) (n-next-useful-index-requires t) (n-find-limits-requires t) (n-mul-begin t) (n-shared-slice-read-begin t) (n-cast-begin t) (n-add-count t) (n-mul-count t) (n-shared-slice-read-count t) (n-cast-count t) (n-sub-count t) (n-loop-holds t) (n-mul-set-cursor-limit t) (n-element-copy-out-set-cursor-limit t) (n-set-cursor-limit-requires t) (n-add-pass t) (n-look-ahead-requires t) (n-loop2-holds t) (n-loop-less t) (n-loop-again t) (n-add-number t) (n-mul-failing-visits t) (n-element-copy-out-failing-visits t) (n-failing-visits-requires t) (n-same-length t) (n-returns-2 t) (n-add-rule t) (n-loop2-less t) (n-loop2-again t) (n-cast-parts-of t) (n-parts-of-requires t) (n-add-t68 t) (n-add-rule-2 t) (n-match-with-rule-requires t) (n-enum-known-got t) (n-loop2-less-2 t) (n-loop2-again-2 t) (n-enum-known-got-2 t) (n-same-length-2 t) (n-returns-3 t) (n-loop3-holds t) (n-add-m t) (n-add-inner-match t) (n-inner-match-requires t) (n-enum-told t) (n-loop3-less t) (n-loop3-again t) (n-enum-known-found t) (n-least-requires t) (n-add-sum t) (n-keep-requires t) (n-enum-told-2 t) (n-same-length-3 t) (n-returns-4 t) (n-enum-known-room t) (n-after-requires t) (n-set-cursor-index-requires t) (n-match-with-rule-requires-2 t) (n-enum-known-got-3 t) (n-loop3-less-2 t) (n-loop3-again-2 t) (n-enum-known-got-4 t) (n-same-length-4 t) (n-returns-5 t) (n-same-length-5 t) (n-returns-6 t))
     (λ t. R.spec (r-calls t) (r-at t) rule.Post r-Inv r-μ
-        (r-get-cursor-index-requires t) (r-set-cursor-index-requires t) (r-loop-holds t) (r-same-length t) (r-returns t) (r-sub-left t) (r-add-finish t) (r-finish-requires t) (r-same-length-2 t) (r-returns-2 t) (r-part-at-requires t) (r-add-at t) (r-enum-known-part t) (r-maybe-expect-char-requires t) (r-enum-known-step t) (r-add-passed t) (r-loop-less t) (r-loop-again t) (r-enum-told t) (r-same-length-3 t) (r-returns-3 t) (r-enum-told-2 t) (r-maybe-expect-whitespace-requires t) (r-enum-known-step-2 t) (r-loop-less-2 t) (r-loop-again-2 t) (r-enum-told-3 t) (r-same-length-4 t) (r-returns-4 t) (r-enum-told-4 t) (r-past-requires t) (r-add-match-with-expr t) (r-match-with-expr-requires t) (r-same-length-5 t) (r-returns-5 t) (r-enum-known-part-2 t) (r-past-requires-2 t) (r-add-match-with-nested-ruledef t) (r-match-with-nested-ruledef-requires t) (r-same-length-6 t) (r-returns-6 t))
+        (r-loop-holds t) (r-same-length t) (r-returns t) (r-sub-left t) (r-add-finish t) (r-finish-requires t) (r-same-length-2 t) (r-returns-2 t) (r-part-at-requires t) (r-add-at t) (r-enum-known-part t) (r-maybe-expect-char-requires t) (r-enum-known-step t) (r-add-passed t) (r-loop-less t) (r-loop-again t) (r-enum-told t) (r-same-length-3 t) (r-returns-3 t) (r-enum-told-2 t) (r-maybe-expect-whitespace-requires t) (r-enum-known-step-2 t) (r-loop-less-2 t) (r-loop-again-2 t) (r-enum-told-3 t) (r-same-length-4 t) (r-returns-4 t) (r-enum-told-4 t) (r-past-requires t) (r-add-match-with-expr t) (r-match-with-expr-requires t) (r-same-length-5 t) (r-returns-5 t) (r-enum-known-part-2 t) (r-past-requires-2 t) (r-add-match-with-nested-ruledef t) (r-match-with-nested-ruledef-requires t) (r-same-length-6 t) (r-returns-6 t))
