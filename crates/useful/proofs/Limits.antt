@@ -2,7 +2,7 @@
 -- after the cursor that holds no whitespace, or the limit, and there is only one such place. So an entry of the line's places
 -- and the limit give it.
 use mathlib.Core.Path.{_≡_, sym, ap, _∙_, subst}
-use mathlib.Core.Bool.{Bool, false}
+use mathlib.Core.Bool.{Bool, true, false}
 use mathlib.Core.List.{List}
 use Prim.Native.Nat.{ℕ, _^_, _≤_, _<_, min}
 use native.Mathlib.Omega.{arith}
@@ -44,6 +44,16 @@ module _ (line places : List ℕ) (lent : Lent line places) where
   entry-is c h =
       listed-read 121 _ places (lent .are) c (omega (arith, lent .short))
       ∙ ap (λ (t : Bool). select t (usefulFrom line c (length line)) 0) (le-leb c (length line) h)
+
+  -- a byte is whitespace exactly if its place's entry is a later one
+  pub later-white : (c : ℕ) → c < length line → c < getD places c 0 → isWhitespace (byteAt line c) ≡ true
+  later-white c h k = whole line c c (omega arith) (omega arith) .passed c (omega arith) (omega (arith, entry-is c (omega arith)))
+
+  pub own-solid : (c : ℕ) → c < length line → getD places c 0 ≤ c → isWhitespace (byteAt line c) ≡ false
+  own-solid c h k =
+      let place : UsefulPlace line (record { cursor = c; limit = length line }) (usefulFrom line c (length line)) = whole line c c (omega arith) (omega arith) in
+      let own : usefulFrom line c (length line) ≡ c = omega (arith, entry-is c (omega arith), place .from) in
+      subst (λ (p : ℕ). isWhitespace (byteAt line p) ≡ false) own (place .stands (omega arith))
 
   pub entry-fits : (c : ℕ) → c ≤ length line → getD places c 0 < 2 ^ 64
   entry-fits c h = omega (arith, lent .short, entry-is c h, whole line c c (omega arith) h .within)

@@ -10,6 +10,7 @@ use Rattle.syntax.proofs.Tight.{steps-apart}
 use Rattle.useful.proofs.useful_places.Reads as useful-places
 use Rattle.useful.proofs.next_useful_index.Reads as next-useful-index
 use Rattle.useful.proofs.maybe_expect_char.Reads as maybe-expect-char
+use Rattle.useful.proofs.maybe_expect_whitespace.Reads as maybe-expect-whitespace
 
 pub useful-places-tight : (κs a : _) (r s : List ℕ) (x y : _) → useful-places.Post κs a r x → useful-places.Post κs a s y → r ≡ s
 useful-places-tight κs a r s x y = one-answer
@@ -19,3 +20,6 @@ next-useful-index-tight κs a r s x y = one-answer
 
 pub maybe-expect-char-tight : (κs a : _) (r s : Step) (x y : _) → maybe-expect-char.Post κs a r x → maybe-expect-char.Post κs a s y → r ≡ s
 maybe-expect-char-tight κs a r s x y = one-told stepSays steps-apart _ r s
+
+pub maybe-expect-whitespace-tight : (κs a : _) (r s : Step) (x y : _) → maybe-expect-whitespace.Post κs a r x → maybe-expect-whitespace.Post κs a s y → r ≡ s
+maybe-expect-whitespace-tight κs a r s x y = one-told stepSays steps-apart _ r s

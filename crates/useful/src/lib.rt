@@ -1,4 +1,4 @@
-// The useful places of a line, worked out once for a call, and the moves of `src/syntax/walker.rs` that skip whitespace by them.
+// The useful places of a line, worked out once for a call, and the moves of `src/syntax/walker.rs` that go by them.
 // The Rust walks over the whitespace at each move. Nothing is refused: what is lent is a line of at most 120 bytes, its own
 // places, and a walker that stands within it.
 use syntax::walker::Step;
@@ -7,7 +7,7 @@ use syntax::walker::least;
 ghost use mathlib.Core.Path.{_≡_};
 ghost use Prim.Native.Nat.{_≤_};
 ghost use lib.ListN.{length};
-ghost use Rattle.syntax.specs.Walker.{held, useful, stepSays, expectChar};
+ghost use Rattle.syntax.specs.Walker.{held, useful, stepSays, expectChar, expectWhitespace};
 ghost use Rattle.useful.specs.Useful.{usefulPlaces, Lent};
 
 // As many as the longest line has, its end included.
@@ -61,6 +61,28 @@ pub fn maybe_expect_char(line: &[u8], places: &[u8; PLACES], walker: Walker, wan
             let cursor = at + 1;
             return Step::Past(Walker { cursor, limit });
         }
+    }
+    Step::Stayed(walker)
+}
+
+// The whitespace part's test: at the limit, or at a byte of whitespace, whose useful place is a later one. It consumes nothing.
+pub fn maybe_expect_whitespace(line: &[u8], places: &[u8; PLACES], walker: Walker) -> Step
+    requires { ⌜ Lent (now line) (now places) ⌝ }
+    requires { ⌜ walker .cursor ≤ walker .limit ⌝ }
+    requires { ⌜ walker .limit ≤ length (now line) ⌝ }
+    ensures answers { λ r. ⌜ stepSays r ≡ expectWhitespace (now (line .entry)) (held (now (line .entry)) walker) ⌝ }
+{
+    let here = walker.cursor;
+    let limit = walker.limit;
+    if limit <= here {
+        return Step::Past(walker);
+    }
+    let place = places[here] as usize;
+    if here < place {
+        return Step::Past(Walker {
+            cursor: here,
+            limit,
+        });
     }
     Step::Stayed(walker)
 }
