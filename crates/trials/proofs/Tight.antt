@@ -64,5 +64,5 @@ same-answer a c b d e =
 pub check-tight : (κs a : _) (r s : Checked) (x y : _) → check.Post κs a r x → check.Post κs a s y → r ≡ s
 check-tight κs a r s x y = one-answer
 
-pub read-line-tight : (κs a : _) (r s : Answer) (x y : _) → read-line.Post κs a r x → read-line.Post κs a s y → (r ≡ s) × (now (x .1 .1 .1 .1 .1 .1 .1 .1 .1 .1 .1 .0) ≡ now (y .1 .1 .1 .1 .1 .1 .1 .1 .1 .1 .1 .0))
+pub read-line-tight : (κs a : _) (r s : Answer) (x y : _) → read-line.Post κs a r x → read-line.Post κs a s y → (r ≡ s) × (now (x .1 .1 .1 .1 .1 .1 .1 .1 .1 .1 .1 .1 .0) ≡ now (y .1 .1 .1 .1 .1 .1 .1 .1 .1 .1 .1 .1 .0))
 read-line-tight κs a r s x y p q = same-answer r s _ _ (one-answer p q)
