@@ -230,7 +230,7 @@ pub fn match_with_rule(
                 }
             }
             Part::Whitespace => {
-                let step = here.maybe_expect_whitespace(line);
+                let step = useful::maybe_expect_whitespace(line, useful, here);
                 match step {
                     // It consumes nothing: the walker comes back where it stood.
                     Step::Past(same) => {

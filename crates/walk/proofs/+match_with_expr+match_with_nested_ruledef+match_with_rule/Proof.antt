@@ -33,7 +33,7 @@ use Rattle.walk.proofs.inner_match.Reads as inner-match
 use Rattle.syntax.proofs.walker.least.Reads as least
 use Rattle.pool.proofs.Pool.keep.Reads as keep
 use Rattle.useful.proofs.maybe_expect_char.Reads as maybe-expect-char
-use Rattle.syntax.proofs.walker.Walker.maybe_expect_whitespace.Reads as maybe-expect-whitespace
+use Rattle.useful.proofs.maybe_expect_whitespace.Reads as maybe-expect-whitespace
 use Rattle.useful.proofs.next_useful_index.Reads as next-useful-index
 use Rattle.syntax.proofs.walker.Walker.set_cursor_index.Reads as set-cursor-index
 use Rattle.syntax.proofs.walker.Walker.set_cursor_limit.Reads as set-cursor-limit
@@ -950,7 +950,10 @@ r-enum-told-2 : (t : ℕ) → R.Need-enum-told-2 (r-calls t) (r-at t) rule.Post 
 r-enum-told-2 t c = search needs
 
 r-maybe-expect-whitespace-requires : (t : ℕ) → R.Need-maybe-expect-whitespace-requires (r-calls t) (r-at t) rule.Post r-Inv r-μ
-r-maybe-expect-whitespace-requires t c κs = search needs
+r-maybe-expect-whitespace-requires t c κs =
+    let c-pre = c .before .before .before .before .before .before .before .before .before .before .before .pre in
+    let c-loop = c .before .before .before .before .before .loop in
+    (c-pre .1 .1 .1 .places, (omega (arith, c-loop .inv .inside, c-loop .inv .under), omega (arith, c-pre .1 .0 .limit, c-loop .inv .under)))
 
 r-enum-known-step-2 : (t : ℕ) → R.Need-enum-known-step-2 (r-calls t) (r-at t) rule.Post r-Inv r-μ
 r-enum-known-step-2 t c = search needs
