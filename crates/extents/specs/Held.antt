@@ -1,4 +1,5 @@
--- What the check of a sheet holds beside it. No sentence of document 01 speaks of it, and no promise of a public function.
+-- What the check of a sheet holds beside it, and what a line's useful places are worked out from. No sentence of document 01
+-- speaks of it.
 use mathlib.Core.Path.{_≡_}
 use mathlib.Core.List.{List}
 use Prim.Native.Nat.{ℕ, _<_}

@@ -85,9 +85,9 @@ fn entry_fits(c: usize, l: usize, e: u8) -> bool
     end <= l
 }
 
-// The places of the longest line, each as a byte.
-fn held_places() -> [u8; PLACES]
-    ensures held { λ r. ⌜ HeldPlaces r ⌝ }
+// The places of the longest line, each as a byte at itself.
+pub fn held_places() -> [u8; PLACES]
+    ensures answers { λ r. ⌜ HeldPlaces r ⌝ }
 {
     let mut list = [0u8; PLACES];
     let mut place: u8 = 0;

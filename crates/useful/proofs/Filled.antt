@@ -1,92 +1,80 @@
--- The line's places as they are filled, from its end to its beginning. Where the loop stands, the entries from there to the line's
--- end are the useful places, those past the end are 0, and `next` is the entry that was filled last: the useful place of the place
--- before is itself, or that entry.
+-- The line's places as they are worked out, from its end to its beginning. Where the loop stands, the entries from there on are
+-- the useful places, and each entry before holds its own place. The end's useful place and those past it are their own, and so is
+-- that of a place which holds no whitespace: there nothing is put. Whitespace has the useful place of the place after it.
 use mathlib.Core.Path.{_≡_, sym, ap, _∙_, subst}
-use mathlib.Core.Logic.{_⊎_, inl, inr}
-use mathlib.Core.Bool.{Bool, true, false}
+use mathlib.Core.Bool.{true, false}
 use mathlib.Core.List.{List}
 use Prim.Native.Nat.{ℕ, _+_, _-_, _≤_, _<_}
 use native.Mathlib.Decide.{ℕ-discrete}
 use native.Mathlib.Omega.{arith}
-use lib.Dec.{leb}
-use lib.ListN.{length, getD, set, replicate, length-set, length-replicate, getD-replicate}
-use lib.Seq.{getD-set-same, getD-set-other}
-use borrow.Author.Tests.{leb-true, leb-false}
-use Rattle.plain.specs.Choice.{select}
+use lib.ListN.{length, getD, drop, set, length-set, drop-of-length-le}
+use lib.Seq.{take-length, getD-set-same, getD-set-other}
 use Rattle.plain.proofs.Lists.{as-listed}
-use Rattle.plain.proofs.Tests.{tested}
 use Rattle.token.specs.Token.{isWhitespace}
-use Rattle.syntax.specs.Walker.{byteAt, usefulFrom}
-use Rattle.syntax.proofs.Useful.{useful-end, useful-here, useful-later}
+use Rattle.syntax.specs.Walker.{byteAt, skipped, usefulFrom}
+use Rattle.syntax.proofs.Useful.{useful-here, useful-later}
+use Rattle.extents.specs.Held.{HeldPlaces}
 use Rattle.useful.specs.Useful.{usefulPlaces}
 
-pub record Filled (line places : List ℕ) (next at : ℕ) : Type 0 where
+pub record Filled (line places : List ℕ) (at : ℕ) : Type 0 where
   pub below : at ≤ length line
   pub sized : length places ≡ 121
-  pub small : next ≤ length line
-  pub last : next ≡ usefulFrom line at (length line)
-  pub each : (c : ℕ) → at ≤ c → c ≤ length line → getD places c 0 ≡ usefulFrom line c (length line)
-  pub rest : (c : ℕ) → length line < c → c < 121 → getD places c 0 ≡ 0
+  pub each : (c : ℕ) → at ≤ c → c < 121 → getD places c 0 ≡ usefulFrom line c (length line)
+  pub own : (c : ℕ) → c < at → getD places c 0 ≡ c
 
--- what is put at a place: the place itself, or what was put at the one after it
-abbrev Next : List ℕ → ℕ → ℕ → ℕ → Type 0
-Next line next k v = ((isWhitespace (byteAt line k) ≡ false) × (v ≡ k)) ⊎ ((isWhitespace (byteAt line k) ≡ true) × (v ≡ next))
+-- from the line's end on a place is its own useful place
+past-own : (line : List ℕ) (c : ℕ) → length line ≤ c → usefulFrom line c (length line) ≡ c
+unfolding usefulFrom skipped
+past-own line c h =
+    ap (λ (bs : List ℕ). skipped (drop c bs) c) (take-length line) ∙ ap (λ (bs : List ℕ). skipped bs c) (drop-of-length-le line h)
 
 module _ (line : List ℕ) (short : length line ≤ 120) where
-  -- one entry more
-  stored : (places : List ℕ) (v k : ℕ) → k ≤ length line → v ≤ length line → length places ≡ 121 → v ≡ usefulFrom line k (length line)
-      → ((c : ℕ) → k < c → c ≤ length line → getD places c 0 ≡ usefulFrom line c (length line))
-      → ((c : ℕ) → length line < c → c < 121 → getD places c 0 ≡ 0)
-      → Filled line (set places k v) v k
-  stored places v k h small size is above past = record {
-    below = h;
-    sized = length-set places k v ∙ size;
-    small = small;
-    last = is;
-    each = λ c l m. at c l m (ℕ-discrete c k);
-    rest = λ c l m. getD-set-other places k c v 0 (λ e. omega arith) ∙ past c l m;
+  pub filled-end : (places : List ℕ) → HeldPlaces places → Filled line places (length line)
+  filled-end places h = record {
+    below = omega arith;
+    sized = h .many;
+    each = λ c l m. h .each c m ∙ sym (past-own line c l);
+    own = λ c l. h .each c (omega arith);
   }
-    where
-      at : (c : ℕ) → k ≤ c → c ≤ length line → Dec (c ≡ k) → getD (set places k v) c 0 ≡ usefulFrom line c (length line)
-      at c l m (yes e) =
-          subst (λ (d : ℕ). getD (set places k v) d 0 ≡ usefulFrom line d (length line)) (sym e)
-          (getD-set-same places k v 0 (omega arith) ∙ is)
-      at c l m (no d) = getD-set-other places k c v 0 d ∙ above c (omega (arith, d)) m
 
-  -- the line's end is its own useful place
-  pub filled-end : Filled line (set (replicate 121 0) (length line) (length line)) (length line) (length line)
-  filled-end =
-      stored (replicate 121 0) (length line) (length line) (omega arith) (omega arith) (length-replicate {A = ℕ} 121 0)
-      (sym (useful-end line (length line) (omega arith))) (λ c h l. absurd (omega arith)) (λ c h l. getD-replicate {A = ℕ} 121 c 0 0 l)
+  module _ (places : List ℕ) (at : ℕ) (f : Filled line places at) (some : 0 < at) where
+    -- the entry of the place before, whatever is put there, if that is its useful place
+    stored : (v : ℕ) → v ≡ usefulFrom line (at - 1) (length line) → Filled line (set places (at - 1) v) (at - 1)
+    stored v is = record {
+      below = omega (arith, f .below);
+      sized = length-set places (at - 1) v ∙ f .sized;
+      each = λ c l m. by c l m (ℕ-discrete c (at - 1));
+      own = λ c l. getD-set-other places (at - 1) c v 0 (λ e. omega arith) ∙ f .own c (omega arith);
+    }
+      where
+        by : (c : ℕ) → at - 1 ≤ c → c < 121 → Dec (c ≡ at - 1) → getD (set places (at - 1) v) c 0 ≡ usefulFrom line c (length line)
+        by c l m (yes e) =
+            subst (λ (d : ℕ). getD (set places (at - 1) v) d 0 ≡ usefulFrom line d (length line)) (sym e)
+            (getD-set-same places (at - 1) v 0 (omega (arith, f .sized)) ∙ is)
+        by c l m (no d) = getD-set-other places (at - 1) c v 0 d ∙ f .each c (omega (arith, d)) m
 
-  -- the place before is its own, or its useful place is the one after it
-  pub filled-more : (places : List ℕ) (next at v : ℕ) → Filled line places next at → 0 < at → Next line next (at - 1) v
-      → Filled line (set places (at - 1) v) v (at - 1)
-  filled-more places next at v f h came =
-      stored places v (at - 1) (omega (arith, f .below)) (within came) (f .sized) (is came)
-      (λ c l m. f .each c (omega arith) m) (f .rest)
-    where
-      after : at - 1 + 1 ≡ at
-      after = omega arith
+    pub filled-white : isWhitespace (byteAt line (at - 1)) ≡ true → Filled line (set places (at - 1) (getD places at 0)) (at - 1)
+    filled-white white =
+        let after : at ≡ at - 1 + 1 = omega arith in
+        stored _
+        (f .each at (omega arith) (omega (arith, f .below)) ∙ ap (λ (c : ℕ). usefulFrom line c (length line)) after
+        ∙ useful-later line (length line) (omega arith) (at - 1) (omega (arith, f .below)) white)
 
-      within : Next line next (at - 1) v → v ≤ length line
-      within (inl (solid, e)) = omega (arith, f .below)
-      within (inr (white, e)) = omega (arith, f .small)
-
-      is : Next line next (at - 1) v → v ≡ usefulFrom line (at - 1) (length line)
-      is (inl (solid, e)) = e ∙ sym (useful-here line (length line) (omega arith) (at - 1) (omega (arith, f .below)) solid)
-      is (inr (white, e)) =
-          e ∙ f .last ∙ ap (λ (c : ℕ). usefulFrom line c (length line)) (sym after)
-          ∙ useful-later line (length line) (omega arith) (at - 1) (omega (arith, f .below)) white
+    pub filled-solid : isWhitespace (byteAt line (at - 1)) ≡ false → Filled line places (at - 1)
+    filled-solid solid = record {
+      below = omega (arith, f .below);
+      sized = f .sized;
+      each = λ c l m. by c l m (ℕ-discrete c (at - 1));
+      own = λ c l. f .own c (omega arith);
+    }
+      where
+        by : (c : ℕ) → at - 1 ≤ c → c < 121 → Dec (c ≡ at - 1) → getD places c 0 ≡ usefulFrom line c (length line)
+        by c l m (yes e) =
+            subst (λ (d : ℕ). getD places d 0 ≡ usefulFrom line d (length line)) (sym e)
+            (f .own (at - 1) (omega arith) ∙ sym (useful-here line (length line) (omega arith) (at - 1) (omega (arith, f .below)) solid))
+        by c l m (no d) = f .each c (omega (arith, d)) m
 
   -- at the line's beginning all are filled
-  pub filled-all : (places : List ℕ) (next at : ℕ) → Filled line places next at → at ≤ 0 → places ≡ usefulPlaces line
+  pub filled-all : (places : List ℕ) (at : ℕ) → Filled line places at → at ≤ 0 → places ≡ usefulPlaces line
   unfolding usefulPlaces
-  filled-all places next at f h = as-listed 121 _ places (f .sized) (λ c l. by c l (tested (leb c (length line))))
-    where
-      entry : ℕ → Bool → ℕ
-      entry c t = select t (usefulFrom line c (length line)) 0
-
-      by : (c : ℕ) → c < 121 → (leb c (length line) ≡ true) ⊎ (leb c (length line) ≡ false) → getD places c 0 ≡ entry c (leb c (length line))
-      by c l (inl t) = f .each c (omega arith) (leb-true c (length line) t) ∙ ap (entry c) (sym t)
-      by c l (inr t) = f .rest c (leb-false c (length line) t) l ∙ ap (entry c) (sym t)
+  filled-all places at f h = as-listed 121 _ places (f .sized) (λ c l. f .each c (omega arith) l)

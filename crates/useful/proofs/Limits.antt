@@ -2,13 +2,11 @@
 -- after the cursor that holds no whitespace, or the limit, and there is only one such place. So an entry of the line's places
 -- and the limit give it.
 use mathlib.Core.Path.{_≡_, sym, ap, _∙_, subst}
-use mathlib.Core.Bool.{Bool, true, false}
+use mathlib.Core.Bool.{true, false}
 use mathlib.Core.List.{List}
 use Prim.Native.Nat.{ℕ, _^_, _≤_, _<_, min}
 use native.Mathlib.Omega.{arith}
 use lib.ListN.{length, getD}
-use borrow.Author.Tests.{le-leb}
-use Rattle.plain.specs.Choice.{select}
 use Rattle.plain.proofs.Lists.{listed-read}
 use Rattle.token.specs.Token.{isWhitespace}
 use Rattle.syntax.specs.Walker.{byteAt, held, UsefulPlace, usefulFrom, useful}
@@ -41,9 +39,7 @@ module _ (line places : List ℕ) (lent : Lent line places) where
   -- an entry of the line's places
   pub entry-is : (c : ℕ) → c ≤ length line → getD places c 0 ≡ usefulFrom line c (length line)
   unfolding usefulPlaces
-  entry-is c h =
-      listed-read 121 _ places (lent .are) c (omega (arith, lent .short))
-      ∙ ap (λ (t : Bool). select t (usefulFrom line c (length line)) 0) (le-leb c (length line) h)
+  entry-is c h = listed-read 121 _ places (lent .are) c (omega (arith, lent .short))
 
   -- a byte is whitespace exactly if its place's entry is a later one
   pub later-white : (c : ℕ) → c < length line → c < getD places c 0 → isWhitespace (byteAt line c) ≡ true

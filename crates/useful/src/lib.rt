@@ -13,23 +13,21 @@ ghost use Rattle.useful.specs.Useful.{usefulPlaces, Lent};
 // As many as the longest line has, its end included.
 pub const PLACES: usize = 121;
 
-// The useful place of each place of the line, its end included; 0 past that. Worked out from the line's end to its beginning.
+// The useful place of each place of the line, its end included; past that each is its own. Worked out from the line's end to its
+// beginning: a place that holds no whitespace is its own too.
 pub fn useful_places(line: &[u8]) -> [u8; PLACES]
     requires { ⌜ length (now line) ≤ 120 ⌝ }
     ensures answers { λ r. ⌜ r ≡ usefulPlaces (now (line .entry)) ⌝ }
 {
-    let n = line.len();
-    let mut places = [0u8; PLACES];
-    places[n] = n as u8;
-    let mut next = n;
-    let mut at = n;
+    let mut places = extents::held_places();
+    let mut at = line.len();
     while 0 < at {
+        let after = at;
         at -= 1;
         let b = line[at];
-        if !token::is_whitespace(b) {
-            next = at;
+        if token::is_whitespace(b) {
+            places[at] = places[after];
         }
-        places[at] = next as u8;
     }
     places
 }

@@ -10,7 +10,7 @@ use Rattle.useful.proofs.maybe_expect_whitespace.Statement.{statement}
 use Rattle.useful.proofs.maybe_expect_whitespace.Tie as tie
 
 returns : tie.Need-returns
-returns c = gap-end _ _ _ (sym (held-same _ _ (c .before .pre .1))) (c .if1 .taken)
+returns c = gap-end _ _ _ (sym (held-same _ _ (c .before .pre .1))) (omega (arith, c .if1 .taken))
 
 element-copy-out-place : tie.Need-element-copy-out-place
 element-copy-out-place c = search needs
