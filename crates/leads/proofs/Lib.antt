@@ -5,3 +5,4 @@ pub mod Laying
 pub mod Nested
 pub mod Bytes
 pub mod Told
+pub mod Tight

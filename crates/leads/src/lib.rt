@@ -91,12 +91,7 @@ fn line_key(line: &[u8], places: &[u8; useful::PLACES], walker: Walker) -> u32
 }
 
 // What the line has ahead, if that is wanted: it costs as much as walking a rule or two, so it pays where many rules are tried.
-pub fn look_ahead(
-    line: &[u8],
-    places: &[u8; useful::PLACES],
-    walker: Walker,
-    wanted: bool,
-) -> Ahead
+pub fn look_ahead(line: &[u8], places: &[u8; useful::PLACES], walker: Walker, wanted: bool) -> Ahead
     requires { ⌜ Lent (now line) (now places) ⌝ }
     requires { ⌜ walker .cursor ≤ walker .limit ⌝ }
     requires { ⌜ walker .limit ≤ length (now line) ⌝ }

@@ -11,7 +11,7 @@ use native.Mathlib.Omega.{arith}
 use native.Mathlib.Decide.{decLt}
 use lib.Dec.{eqb, ltb}
 use lib.ListN.{length, take, drop, drop-of-length-le}
-use lib.Seq.{length-take-le, getD-take}
+use lib.Seq.{length-take-le, getD-take, take-all}
 use borrow.Author.Tests.{lt-ltb, le-ltb, ltb-true}
 use Rattle.plain.specs.Choice.{select}
 use Rattle.plain.specs.Lists.{keepIf}
@@ -19,7 +19,7 @@ use Rattle.plain.proofs.Tests.{tested}
 use Rattle.token.specs.Token.{isSolid, isWhitespace, lowered, sameLetter}
 use Rattle.syntax.specs.Walker.{byteAt, held, UsefulPlace, useful, pastPlace, expectChar}
 use Rattle.syntax.proofs.Useful.{held-within, useful-is}
-use Rattle.ruledef_map.specs.RuledefMap.{leading, rulePrefix}
+use Rattle.ruledef_map.specs.RuledefMap.{leading, rulePrefix, linePrefix}
 use Rattle.defs.specs.declared.ruledef.Part.{Part}
 use Rattle.defs.specs.declared.ruledef.Part.the-variants.{Exact, Whitespace, Expression, Nested}
 use Rattle.readings.specs.Scene.{Scene, walkerAt}
@@ -57,7 +57,7 @@ module _ (line : List ℕ) (l : ℕ) (within : l ≤ length line) where
           from,
           most,
           solids-skip seen (u - c) c (omega (arith, long)) (λ i a b. ap isWhitespace (byte-seen i (omega arith)) ∙ found .passed i (omega arith) (omega arith))
-          ∙ ap (solidsFrom seen) at,
+              ∙ ap (solidsFrom seen) at,
         )
 
     pub met-byte : u < l → solidsFrom seen c ≡ lowered (byteAt line u) ∷ solidsFrom seen (u + 1)
@@ -158,6 +158,11 @@ module _ (s : Scene) (below : Below) (fin : ℕ → Bool) (l : ℕ) (within : l 
   pub walk-fails : (ps : List Part) (c j : ℕ) → c ≤ l → FailsAt (rulePrefix ps) (ahead (s .line) l c) j → walk s below fin ps l c ≡ visited (suc j) (give [])
   unfolding rulePrefix ahead
   walk-fails ps c j inside fails = leading-fails ps 4 c inside (omega arith) ∙ ap (λ (m : ℕ). visited (suc m) (give [])) (fails .0)
+
+-- at the line's start, under no limit but its end, that is its prefix
+pub prefix-ahead : (line : List ℕ) → ahead line (length line) 0 ≡ linePrefix line
+unfolding ahead linePrefix
+prefix-ahead line = ap (λ (l : List ℕ). take 4 (map lowered (keepIf isSolid l))) (take-all (length line) line (omega arith))
 
 pub fails-at : (q p : List ℕ) (j : ℕ) → failing q p ≡ suc j → FailsAt q p j
 unfolding failing

@@ -109,6 +109,11 @@ unfolding isWhitespace
 white-above k b h l =
     rw (isWhitespace, ne-eqb b 9 (λ e. omega arith), ne-eqb b 13 (λ e. omega arith), ne-eqb b 32 (λ e. omega arith))
 
+-- from the last whitespace on, that byte alone is
+pub white-from : (k b : ℕ) → k ≤ b → k ≡ 32 → eqb b k ≡ isWhitespace b
+unfolding isWhitespace
+white-from k b h e = rw (isWhitespace, ne-eqb b 9 (λ n. omega arith), ne-eqb b 13 (λ n. omega arith)) (ap (eqb b) e)
+
 pub low-below : (k b : ℕ) → b < k → k ≤ 65 → b ≡ lowered b
 unfolding lowered
 low-below k b h l = rw (lowered, lt-leb 65 b (omega arith))

@@ -279,8 +279,8 @@ pub const OPEN_BRACE: u16 = 4;
 
 pub const CLOSE_BRACE: u16 = 5;
 
-// No byte above this is whitespace, and none outside the next two has a partner other than itself. The compiler lays the
-// table anew at each read, so it is read only for the bytes that these leave.
+// This byte is whitespace and none above it is, and none outside the next two has a partner other than itself. The compiler
+// lays the table anew at each read, so it is read only for the bytes that these leave.
 const LAST_WHITESPACE: u8 = 32;
 
 const FIRST_CAPITAL: u8 = 65;
@@ -309,8 +309,8 @@ fn class(b: u8) -> u16
 pub fn is_whitespace(b: u8) -> bool
     ensures answers { λ r. ⌜ r ≡ isWhitespace b ⌝ }
 {
-    if LAST_WHITESPACE < b {
-        return false;
+    if LAST_WHITESPACE <= b {
+        return b == LAST_WHITESPACE;
     }
     class(b) / PARTNERS == WHITESPACE
 }

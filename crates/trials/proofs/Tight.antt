@@ -4,6 +4,7 @@ use mathlib.Core.Path.{_≡_, refl, sym, ap, _∙_}
 use mathlib.Core.List.{List}
 use Prim.Native.Nat.{ℕ}
 use lib.Dec.{eqb}
+use lib.ListN.{getD}
 use denote.Ref.{now}
 use Rattle.plain.specs.Choice.{select}
 use Rattle.plain.specs.Told.{Told}
@@ -12,6 +13,8 @@ use Rattle.trials.specs.declared.Answer.{Answer}
 use Rattle.trials.specs.declared.Answer.the-variants.{Matched, NoMatch, BadTable, BadLine, BadSheet, BadBudget, BadBase, Spent, TooDeep, PoolFull, TooLong}
 use Rattle.trials.specs.Told.{says}
 use Rattle.trials.specs.declared.Checked.{Checked}
+use Rattle.leads.proofs.Tight.{led-same}
+use Rattle.trials.proofs.lead_rules.Reads as lead-rules
 use Rattle.trials.proofs.check.Reads as check
 use Rattle.trials.proofs.read_line.Reads as read-line
 
@@ -60,6 +63,9 @@ buffer-of (TooLong v w) b = refl
 pub same-answer : (a c : Answer) (b d : List ℕ) → says a b ≡ says c d → (a ≡ c) × (b ≡ d)
 same-answer a c b d e =
     (sym (case-of-says a b) ∙ ap case-of e ∙ case-of-says c d, sym (buffer-of a b) ∙ ap (λ (r : Told). r .buffer) e ∙ buffer-of c d)
+
+pub lead-rules-tight : (κs a r s x y : _) → lead-rules.Post κs a r x → lead-rules.Post κs a s y → (i : ℕ) → _≡_ {A = ℕ} (getD (now (x .1 .1 .1 .1 .1 .1 .0)) i 0) (getD (now (y .1 .1 .1 .1 .1 .1 .0)) i 0)
+lead-rules-tight κs a r s x y = led-same
 
 pub check-tight : (κs a : _) (r s : Checked) (x y : _) → check.Post κs a r x → check.Post κs a s y → r ≡ s
 check-tight κs a r s x y = one-answer

@@ -12,11 +12,11 @@ use borrow.Author.Tests.{ltb-true}
 use Rattle.plain.specs.Choice.{select}
 use Rattle.plain.proofs.Tests.{and-left}
 use Rattle.token.specs.Token.{sameLetter}
-use Rattle.syntax.specs.Walker.{byteAt, held, movedTo, useful, stepSays, expectChar, expectWhitespace}
+use Rattle.syntax.specs.Walker.{byteAt, held, useful, stepSays, expectChar, expectWhitespace}
 use Rattle.syntax.specs.declared.walker.Walker.{Walker}
 use Rattle.syntax.specs.declared.walker.Step.{Step}
 use Rattle.syntax.specs.declared.walker.Step.the-variants.{Past, Stayed}
-use Rattle.syntax.proofs.Useful.{held-within, held-same, index-set, useful-is}
+use Rattle.syntax.proofs.Useful.{held-within, held-same, useful-is}
 use Rattle.defs.specs.Table.{wordAt, partOf, partsBetween}
 use Rattle.defs.specs.declared.ruledef.Part.{Part}
 use Rattle.defs.specs.declared.ruledef.Part.the-variants.{Exact, Whitespace, Expression, Nested}
@@ -154,24 +154,6 @@ pub left-nothing : {t : List ℕ} {o : Outcome (List Found)} {left : ℕ} (place
     → Counted (sceneOf t [] []) (logOf store (pool .used)) → o ≡ done left (pool .used) [] → Left t o place (logOf store (pool .used)) store (Done left pool)
 left-nothing place pool store s counts e =
     went (record { founds = []; done-with = e; made = made-none (place .depth) (logOf store (pool .used)) (s .earlier); counted = counts })
-
--- ---- a walk that begins with a move to where it stands begins as it was
-
-module _ {t line sheet starts store : List ℕ} {place : Place} {w : Walker} {pool : Pool} (ready : Ready t line sheet starts store place w pool)
-    {at : ℕ} (at-is : at ≡ w .cursor) {here : Walker} (here-is : here ≡ movedTo line at (held line w)) where
-  begun : here ≡ w
-  begun = here-is ∙ ap (λ (n : ℕ). movedTo line n (held line w)) at-is ∙ index-set line w (w .cursor) (ready .cursor, ready .limit) (ready .cursor)
-
-  pub begun-ready : Ready t line sheet starts store place here pool
-  begun-ready = subst (λ (v : Walker). Ready t line sheet starts store place v pool) (sym begun) ready
-
-  pub begun-stands : {count : ℕ} {rest : List Part} → Stands t store (pool .used) place count rest (w .cursor) → Stands t store (pool .used) place count rest (here .cursor)
-  begun-stands {count} {rest} x = subst (λ (v : Walker). Stands t store (pool .used) place count rest (v .cursor)) (sym begun) x
-
-  pub begun-left : (visits : ℕ) {store′ : List ℕ} {r : Walked} → Left t (ran (rulePlan t line sheet (place .depth) (place .at) (place .end) (here .limit) (here .cursor)) visits pool) place (logOf store (pool .used)) store′ r
-      → Left t (ran (rulePlan t line sheet (place .depth) (place .at) (place .end) (w .limit) (w .cursor)) visits pool) place (logOf store (pool .used)) store′ r
-  begun-left visits {store′} {r} m =
-      subst (λ (v : Walker). Left t (ran (rulePlan t line sheet (place .depth) (place .at) (place .end) (v .limit) (v .cursor)) visits pool) place (logOf store (pool .used)) store′ r) begun m
 
 -- ---- the loop over parts
 

@@ -88,16 +88,17 @@ slice-aggregate-read-line-4 c = search needs
 
 read-line-requires : tie.Need-read-line-requires
 read-line-requires c κs = (
-    record {
-      table = passed (c .before .before .before .before .before .before .before .before .before .before .before .before .before .before .before .before .before .before .before .before .before .before .before .before .before .check-table .ensures) (c .before .before .before .before .before .before .before .before .before .before .before .before .before .before .before .before .before .before .before .before .before .before .before .before .if1 .left);
-      lined = accepted-by _ _ _ _ (c .before .before .before .before .before .before .before .before .before .before .before .before .before .before .before .before .before .before .before .before .before .before .before .check .ensures) (c .before .before .before .before .before .before .before .before .before .before .before .before .before .before .before .before .before .before .before .before .before .enum-told .given .1);
-      begins = c .before .before .before .before .before .before .before .before .before .before .before .before .before .before .before .before .before .before .before .before .ruleset-starts .ensures;
-      placed = c .before .before .before .before .before .before .before .before .before .before .before .before .before .place-rules .ensures;
-      chosen = chosen-by (c .before .before .before .before .before .before .before .before .before .before .before .before .before .before .before .before .before .before .before .before .before .before .before .before .before .before .before .before .before .before .args .order) _ (c .before .before .before .before .before .before .before .before .before .before .before .before .before .before .before .before .before .before .before .before .before .before .before .before .before .before .before .before .before .before .args .line .now) (c .before .before .before .before .before .before .before .before .before .before .before .before .before .before .before .before .before .before .before .before .before .before .before .before .before .before .before .before .before .before .args .sheet .now) 0 0 [] (passed (c .before .before .before .before .before .before .before .before .before .before .before .before .before .before .before .before .before .before .before .before .before .before .before .before .before .check-table .ensures) (c .before .before .before .before .before .before .before .before .before .before .before .before .before .before .before .before .before .before .before .before .before .before .before .before .if1 .left)) _ (c .before .before .before .before .before .before .before .before .before .before .before .before .before .before .before .before .before .before .rules-to-try .ensures .0);
-      sized = refl;
-      fits = omega (arith, c .before .before .before .before .before .before .before .before .before .before .before .before .before .before .before .before .before .before .rules-to-try .ensures .1, c .before .before .before .before .before .before .before .before .before .before .before .before .before .before .before .before .before .before .rules-to-try .kept);
-    },
-    leads-more (leads-none _) (c .before .before .before .before .before .before .before .lead-rules .ensures) (omega (arith, c .before .before .before .before .before .before .before .lead-rules .kept)))
+  record {
+    table = passed (c .before .before .before .before .before .before .before .before .before .before .before .before .before .before .before .before .before .before .before .before .before .before .before .before .before .check-table .ensures) (c .before .before .before .before .before .before .before .before .before .before .before .before .before .before .before .before .before .before .before .before .before .before .before .before .if1 .left);
+    lined = accepted-by _ _ _ _ (c .before .before .before .before .before .before .before .before .before .before .before .before .before .before .before .before .before .before .before .before .before .before .before .check .ensures) (c .before .before .before .before .before .before .before .before .before .before .before .before .before .before .before .before .before .before .before .before .before .enum-told .given .1);
+    begins = c .before .before .before .before .before .before .before .before .before .before .before .before .before .before .before .before .before .before .before .before .ruleset-starts .ensures;
+    placed = c .before .before .before .before .before .before .before .before .before .before .before .before .before .place-rules .ensures;
+    chosen = chosen-by (c .before .before .before .before .before .before .before .before .before .before .before .before .before .before .before .before .before .before .before .before .before .before .before .before .before .before .before .before .before .before .args .order) _ (c .before .before .before .before .before .before .before .before .before .before .before .before .before .before .before .before .before .before .before .before .before .before .before .before .before .before .before .before .before .before .args .line .now) (c .before .before .before .before .before .before .before .before .before .before .before .before .before .before .before .before .before .before .before .before .before .before .before .before .before .before .before .before .before .before .args .sheet .now) 0 0 [] (passed (c .before .before .before .before .before .before .before .before .before .before .before .before .before .before .before .before .before .before .before .before .before .before .before .before .before .check-table .ensures) (c .before .before .before .before .before .before .before .before .before .before .before .before .before .before .before .before .before .before .before .before .before .before .before .before .if1 .left)) _ (c .before .before .before .before .before .before .before .before .before .before .before .before .before .before .before .before .before .before .rules-to-try .ensures .0);
+    sized = refl;
+    fits = omega (arith, c .before .before .before .before .before .before .before .before .before .before .before .before .before .before .before .before .before .before .rules-to-try .ensures .1, c .before .before .before .before .before .before .before .before .before .before .before .before .before .before .before .before .before .before .rules-to-try .kept);
+  },
+  leads-more (leads-none _) (c .before .before .before .before .before .before .before .lead-rules .ensures) (omega (arith, c .before .before .before .before .before .before .before .lead-rules .kept)),
+)
 
 same-length : tie.Need-same-length
 same-length c = search needs

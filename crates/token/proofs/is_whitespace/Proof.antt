@@ -1,11 +1,11 @@
 use native.Mathlib.Omega.{arith}
-use Rattle.token.proofs.Bytes.{class-whitespace, white-above}
+use Rattle.token.proofs.Bytes.{class-whitespace, white-from}
 use borrow.Author.Needs.{needs}
 use Rattle.token.proofs.is_whitespace.Statement.{statement}
 use Rattle.token.proofs.is_whitespace.Tie as tie
 
 returns : tie.Need-returns
-returns c = white-above _ _ (c .if1 .taken) (omega arith)
+returns c = white-from _ _ (c .if1 .taken) (omega arith)
 
 class-requires : tie.Need-class-requires
 class-requires c κs = search needs

@@ -210,8 +210,7 @@ e-match-with-rule-requires t c κs =
     let c-room = c .before .before .before .before .room in
     let c-keep = c .before .before .before .before .before .before .before .before .keep in
     let c-after = c .before .before .after in
-    let c-set-cursor-index = c .before .set-cursor-index in
-    (
+    let c-set-cursor-index = c .before .set-cursor-index in (
       omega (arith, c-loop .inv .falls, c-pre .0),
       (
         expr-ready (c-pre .1 .0) _ _ (c-next-useful-index .ensures) _ (c-find-ends .ensures) (c-loop .inv) (c-loop-test .taken) _ refl _ (c-least .ensures) _ _ (rw (c-room .given .1) at (c-keep .ensures .log)) (c-after .ensures)
@@ -219,7 +218,7 @@ e-match-with-rule-requires t c κs =
             (expr-counted (c-pre .1 .0) _ _ (c-next-useful-index .ensures) _ (c-find-ends .ensures) (c-loop .inv) (c-loop-test .taken) _ refl _ (c-least .ensures) _ _ (rw (c-room .given .1) at (c-keep .ensures .log)) (c-pre .1 .1 .0)) (c-set-cursor-index .ensures),
         (
           expr-stands (c-pre .1 .0) _ _ (c-next-useful-index .ensures) _ (c-find-ends .ensures) (c-loop .inv) (c-loop-test .taken) _ refl _ (c-least .ensures) _ _ (rw (c-room .given .1) at (c-keep .ensures .log)) (c-pre .1 .1 .0) (c-after .ensures) (c-set-cursor-index .ensures),
-          c-pre .1 .1 .1
+          c-pre .1 .1 .1,
         ),
       ),
     )
@@ -1057,8 +1056,7 @@ r-match-with-nested-ruledef-requires t c κs =
     let c-part-at = c .before .before .before .before .before .part-at in
     let c-past2 = c .before .past2 in
     let c-part2 = c .before .before .before .part2 in
-    let c-args = c .before .before .before .before .before .before .before .before .before .before .before .before .before .before .args in
-    (
+    let c-args = c .before .before .before .before .before .before .before .before .before .before .before .before .before .before .args in (
       omega (arith, c-loop .inv .falls, c-if1 .left, c-pre .0),
       (step-ready (c-pre .1 .0) _ (c-loop .inv) (c-if1 .left) (c-if2 .left) _ (c-part-at .ensures) (c-past2 .ensures), (step-stands (c-pre .1 .0) _ (c-loop .inv) (c-if1 .left) (c-if2 .left) _ (c-part-at .ensures) (c-part2 .given .1) (c-past2 .ensures), (ruleset-few (c-pre .1 .0) (c-args .visits) (c-loop .inv) (c-if1 .left) (c-if2 .left) _ (c-part-at .ensures) (c-part2 .given .1), c-pre .1 .1 .1))),
     )
@@ -1085,8 +1083,8 @@ pub +match-with-expr+match-with-nested-ruledef+match-with-rule-spec : {M : Type 
 +match-with-expr+match-with-nested-ruledef+match-with-rule-spec =
     close μ-e μ-n μ-r
     (λ t. E.spec (e-calls t) (e-at t) expr.Post e-Inv e-μ
-        (e-next-useful-index-requires t) (e-find-ends-requires t) (e-loop-holds t) (e-mul-end t) (e-element-copy-out-end t) (e-add-i t) (e-least-requires t) (e-keep-requires t) (e-enum-told t) (e-same-length t) (e-returns t) (e-enum-known-room t) (e-after-requires t) (e-set-cursor-index-requires t) (e-match-with-rule-requires t) (e-enum-known-got t) (e-loop-less t) (e-loop-again t) (e-enum-known-got-2 t) (e-same-length-2 t) (e-returns-2 t) (e-same-length-3 t) (e-returns-3 t))
+    (e-next-useful-index-requires t) (e-find-ends-requires t) (e-loop-holds t) (e-mul-end t) (e-element-copy-out-end t) (e-add-i t) (e-least-requires t) (e-keep-requires t) (e-enum-told t) (e-same-length t) (e-returns t) (e-enum-known-room t) (e-after-requires t) (e-set-cursor-index-requires t) (e-match-with-rule-requires t) (e-enum-known-got t) (e-loop-less t) (e-loop-again t) (e-enum-known-got-2 t) (e-same-length-2 t) (e-returns-2 t) (e-same-length-3 t) (e-returns-3 t))
     (λ t. N.spec (n-calls t) (n-at t) nested.Post n-Inv2 n-μ2 n-Inv n-μ n-Inv3 n-μ3
-        (n-returns t) (n-next-useful-index-requires t) (n-find-limits-requires t) (n-mul-begin t) (n-shared-slice-read-begin t) (n-cast-begin t) (n-add-count t) (n-mul-count t) (n-shared-slice-read-count t) (n-cast-count t) (n-sub-count t) (n-loop-holds t) (n-mul-set-cursor-limit t) (n-element-copy-out-set-cursor-limit t) (n-set-cursor-limit-requires t) (n-add-pass t) (n-look-ahead-requires t) (n-loop2-holds t) (n-loop-less t) (n-loop-again t) (n-add-number t) (n-mul-failing-visits t) (n-element-copy-out-failing-visits t) (n-failing-visits-requires t) (n-same-length t) (n-returns-2 t) (n-add-rule t) (n-loop2-less t) (n-loop2-again t) (n-cast-parts-of t) (n-parts-of-requires t) (n-add-t68 t) (n-add-rule-2 t) (n-match-with-rule-requires t) (n-enum-known-got t) (n-loop2-less-2 t) (n-loop2-again-2 t) (n-enum-known-got-2 t) (n-same-length-2 t) (n-returns-3 t) (n-loop3-holds t) (n-add-m t) (n-add-inner-match t) (n-inner-match-requires t) (n-enum-told t) (n-loop3-less t) (n-loop3-again t) (n-enum-known-found t) (n-least-requires t) (n-add-sum t) (n-keep-requires t) (n-enum-told-2 t) (n-same-length-3 t) (n-returns-4 t) (n-enum-known-room t) (n-after-requires t) (n-set-cursor-index-requires t) (n-match-with-rule-requires-2 t) (n-enum-known-got-3 t) (n-loop3-less-2 t) (n-loop3-again-2 t) (n-enum-known-got-4 t) (n-same-length-4 t) (n-returns-5 t) (n-same-length-5 t) (n-returns-6 t))
+    (n-returns t) (n-next-useful-index-requires t) (n-find-limits-requires t) (n-mul-begin t) (n-shared-slice-read-begin t) (n-cast-begin t) (n-add-count t) (n-mul-count t) (n-shared-slice-read-count t) (n-cast-count t) (n-sub-count t) (n-loop-holds t) (n-mul-set-cursor-limit t) (n-element-copy-out-set-cursor-limit t) (n-set-cursor-limit-requires t) (n-add-pass t) (n-look-ahead-requires t) (n-loop2-holds t) (n-loop-less t) (n-loop-again t) (n-add-number t) (n-mul-failing-visits t) (n-element-copy-out-failing-visits t) (n-failing-visits-requires t) (n-same-length t) (n-returns-2 t) (n-add-rule t) (n-loop2-less t) (n-loop2-again t) (n-cast-parts-of t) (n-parts-of-requires t) (n-add-t68 t) (n-add-rule-2 t) (n-match-with-rule-requires t) (n-enum-known-got t) (n-loop2-less-2 t) (n-loop2-again-2 t) (n-enum-known-got-2 t) (n-same-length-2 t) (n-returns-3 t) (n-loop3-holds t) (n-add-m t) (n-add-inner-match t) (n-inner-match-requires t) (n-enum-told t) (n-loop3-less t) (n-loop3-again t) (n-enum-known-found t) (n-least-requires t) (n-add-sum t) (n-keep-requires t) (n-enum-told-2 t) (n-same-length-3 t) (n-returns-4 t) (n-enum-known-room t) (n-after-requires t) (n-set-cursor-index-requires t) (n-match-with-rule-requires-2 t) (n-enum-known-got-3 t) (n-loop3-less-2 t) (n-loop3-again-2 t) (n-enum-known-got-4 t) (n-same-length-4 t) (n-returns-5 t) (n-same-length-5 t) (n-returns-6 t))
     (λ t. R.spec (r-calls t) (r-at t) rule.Post r-Inv r-μ
-        (r-loop-holds t) (r-same-length t) (r-returns t) (r-sub-left t) (r-add-finish t) (r-finish-requires t) (r-same-length-2 t) (r-returns-2 t) (r-part-at-requires t) (r-add-at t) (r-enum-known-part t) (r-maybe-expect-char-requires t) (r-enum-known-step t) (r-add-passed t) (r-loop-less t) (r-loop-again t) (r-enum-told t) (r-same-length-3 t) (r-returns-3 t) (r-enum-told-2 t) (r-maybe-expect-whitespace-requires t) (r-enum-known-step-2 t) (r-loop-less-2 t) (r-loop-again-2 t) (r-enum-told-3 t) (r-same-length-4 t) (r-returns-4 t) (r-enum-told-4 t) (r-past-requires t) (r-add-match-with-expr t) (r-match-with-expr-requires t) (r-same-length-5 t) (r-returns-5 t) (r-enum-known-part-2 t) (r-past-requires-2 t) (r-add-match-with-nested-ruledef t) (r-match-with-nested-ruledef-requires t) (r-same-length-6 t) (r-returns-6 t))
+    (r-loop-holds t) (r-same-length t) (r-returns t) (r-sub-left t) (r-add-finish t) (r-finish-requires t) (r-same-length-2 t) (r-returns-2 t) (r-part-at-requires t) (r-add-at t) (r-enum-known-part t) (r-maybe-expect-char-requires t) (r-enum-known-step t) (r-add-passed t) (r-loop-less t) (r-loop-again t) (r-enum-told t) (r-same-length-3 t) (r-returns-3 t) (r-enum-told-2 t) (r-maybe-expect-whitespace-requires t) (r-enum-known-step-2 t) (r-loop-less-2 t) (r-loop-again-2 t) (r-enum-told-3 t) (r-same-length-4 t) (r-returns-4 t) (r-enum-told-4 t) (r-past-requires t) (r-add-match-with-expr t) (r-match-with-expr-requires t) (r-same-length-5 t) (r-returns-5 t) (r-enum-known-part-2 t) (r-past-requires-2 t) (r-add-match-with-nested-ruledef t) (r-match-with-nested-ruledef-requires t) (r-same-length-6 t) (r-returns-6 t))
