@@ -15,6 +15,7 @@ use Rattle.defs.proofs.ruledef.is_top_rule.Reads as is-top-rule
 use Rattle.defs.proofs.ruledef.ruleset_of.Reads as ruleset-of
 use Rattle.defs.proofs.ruledef.parts_of.Reads as parts-of
 use Rattle.defs.proofs.ruledef.part_at.Reads as part-at
+use Rattle.defs.proofs.ruledef.part_within.Reads as part-within
 use Rattle.defs.proofs.ruledef.ruleset_starts.Reads as ruleset-starts
 
 pub word-at-tight : (κs a : _) (r s : ℕ) (x y : _) → word-at.Post κs a r x → word-at.Post κs a s y → r ≡ s
@@ -40,6 +41,9 @@ parts-of-tight κs a r s x y = one-answer
 
 pub part-at-tight : (κs a : _) (r s : Part) (x y : _) → part-at.Post κs a r x → part-at.Post κs a s y → r ≡ s
 part-at-tight κs a r s x y = one-answer
+
+pub part-within-tight : (κs a : _) (r s : Part) (x y : _) → part-within.Post κs a r x → part-within.Post κs a s y → r ≡ s
+part-within-tight κs a r s x y = one-answer
 
 pub ruleset-starts-tight : (κs a : _) (r s : List ℕ) (x y : _) → ruleset-starts.Post κs a r x → ruleset-starts.Post κs a s y → r ≡ s
 ruleset-starts-tight κs a r s x y = one-answer

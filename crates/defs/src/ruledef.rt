@@ -127,11 +127,10 @@ pub fn parts_of(table: &[u16], rule: u16) -> Parts
     }
 }
 
-// The part that a word of the table stands for. Words that are no part are for `acceptance` to refuse.
-pub fn part_at(table: &[u16], at: usize) -> Part
-    ensures answers { λ r. ⌜ r ≡ partOf (wordAt (now (table .entry)) at) ⌝ }
+// The part that a word stands for. Words that are no part are for `acceptance` to refuse.
+fn part_of(w: usize) -> Part
+    ensures { λ r. ⌜ r ≡ partOf w ⌝ }
 {
-    let w = word_at(table, at);
     if w < WHITESPACE {
         return Part::Exact((w % WHITESPACE) as u8);
     }
@@ -142,6 +141,21 @@ pub fn part_at(table: &[u16], at: usize) -> Part
         return Part::Expression;
     }
     Part::Nested(w - NESTED)
+}
+
+// The part at a place of the table.
+pub fn part_at(table: &[u16], at: usize) -> Part
+    ensures answers { λ r. ⌜ r ≡ partOf (wordAt (now (table .entry)) at) ⌝ }
+{
+    part_of(word_at(table, at))
+}
+
+// The same of a place that the caller knows to be one, as a walk does of its rule's: it is not tested again.
+pub fn part_within(table: &[u16], at: usize) -> Part
+    requires { ⌜ at < length (now table) ⌝ }
+    ensures answers { λ r. ⌜ r ≡ partOf (wordAt (now (table .entry)) at) ⌝ }
+{
+    part_of(table[at] as usize)
 }
 
 // ---- where each ruleset begins

@@ -19,15 +19,17 @@ use Rattle.extents.proofs.Rows.{none-judged, joined}
 
 -- a pair of entries, as bytes, with no branch
 pub pair-is :
-    (c l x y : ℕ) {r s : Bool} → r ≡ not (entryFits c l x) → s ≡ not (entryFits c l y) →
+    (c l x y : ℕ) {r s : Bool} → (c ≤ l → r ≡ not (entryFits c l x)) → (c ≤ l → s ≡ not (entryFits c l y)) →
     (leb c l && (r || s)) ≡ not ((ltb l c || entryFits c l x) && (ltb l c || entryFits c l y))
-pair-is c l x y {r} {s} p q = go (entryFits c l x) (entryFits c l y) p q (tested (leb c l))
+pair-is c l x y {r} {s} p q = by (tested (leb c l))
   where
-    go : (f g : Bool) → r ≡ not f → s ≡ not g → (leb c l ≡ true) ⊎ (leb c l ≡ false)
-        → (leb c l && (r || s)) ≡ not ((ltb l c || f) && (ltb l c || g))
-    go f g p q (inr above) = rw (above, lt-ltb l c (leb-false c l above))
-    go true g p q (inl from) = rw (from, le-ltb l c (leb-true c l from), p) q
-    go false g p q (inl from) = rw (from, le-ltb l c (leb-true c l from), p)
+    go : (f g : Bool) → r ≡ not f → s ≡ not g → leb c l ≡ true → (leb c l && (r || s)) ≡ not ((ltb l c || f) && (ltb l c || g))
+    go true g p q from = rw (from, le-ltb l c (leb-true c l from), p) q
+    go false g p q from = rw (from, le-ltb l c (leb-true c l from), p)
+
+    by : (leb c l ≡ true) ⊎ (leb c l ≡ false) → (leb c l && (r || s)) ≡ not ((ltb l c || entryFits c l x) && (ltb l c || entryFits c l y))
+    by (inr above) = rw (above, lt-ltb l c (leb-false c l above))
+    by (inl from) = go (entryFits c l x) (entryFits c l y) (p (leb-true c l from)) (q (leb-true c l from)) from
 
 module _ (sheet : List ℕ) (n c : ℕ) where
   -- the entries of both halves fit at a limit, or the start lies above it

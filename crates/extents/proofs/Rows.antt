@@ -9,7 +9,7 @@ use native.Mathlib.Omega.{arith}
 use lib.Dec.{eqb, leb, ltb}
 use lib.ListN.{length, getD, set}
 use lib.Seq.{getD-set-same, getD-set-other}
-use borrow.Author.Tests.{lt-ltb, le-ltb, leb-true, leb-false}
+use borrow.Author.Tests.{lt-ltb, le-ltb, leb-true, leb-false, eq-eqb, eqb-true}
 use Rattle.plain.specs.Below.{everyBelow}
 use Rattle.plain.proofs.Below.{every-all, every-more}
 use Rattle.plain.proofs.Tests.{or-left, tested}
@@ -31,16 +31,23 @@ module _ (sheet : List ℕ) (n : ℕ) (half : Half) where
 
 -- ---- as bytes, with no branch
 
--- a test on bytes that joins nothing but comparisons: it holds exactly where an entry does not fit
-pub odd-is : (c l e : ℕ) → (not (eqb e 255) && (ltb e c || ltb l e)) ≡ not (entryFits c l e)
+-- a test on bytes that joins nothing but comparisons: with the entry held between its start and its limit, it holds exactly
+-- where the entry does not fit
+pub odd-is :
+    (c l e : ℕ) {r : ℕ} → (c ≤ e → e ≤ l → r ≡ e) → (c ≤ l → r ≡ e → (c ≤ e) × (e ≤ l)) → c ≤ l →
+    (not (eqb e 255) && not (eqb r e)) ≡ not (entryFits c l e)
 unfolding entryFits
-odd-is c l e = go (eqb e 255) (tested (leb c e)) (tested (leb e l))
+odd-is c l e {r} stays lies from = go (eqb e 255) (tested (leb c e)) (tested (leb e l)) (tested (eqb r e))
   where
-    go : (t : Bool) → (leb c e ≡ true) ⊎ (leb c e ≡ false) → (leb e l ≡ true) ⊎ (leb e l ≡ false) → (not t && (ltb e c || ltb l e)) ≡ not (t || (leb c e && leb e l))
-    go true p q = refl
-    go false (inl p) (inl q) = rw (p, q, le-ltb e c (leb-true c e p), le-ltb l e (leb-true e l q))
-    go false (inl p) (inr q) = rw (p, q, le-ltb e c (leb-true c e p), lt-ltb l e (leb-false e l q))
-    go false (inr p) q = rw (p, lt-ltb e c (leb-false c e p))
+    go :
+        (t : Bool) → (leb c e ≡ true) ⊎ (leb c e ≡ false) → (leb e l ≡ true) ⊎ (leb e l ≡ false) → (eqb r e ≡ true) ⊎ (eqb r e ≡ false) →
+        (not t && not (eqb r e)) ≡ not (t || (leb c e && leb e l))
+    go true p q same = refl
+    go false (inl p) (inl q) same = rw (p, q, eq-eqb r e (stays (leb-true c e p) (leb-true e l q)))
+    go false (inl p) (inr q) (inl same) = absurd (omega (arith, lies from (eqb-true r e same), leb-false e l q))
+    go false (inl p) (inr q) (inr other) = rw (p, q, other)
+    go false (inr p) q (inl same) = absurd (omega (arith, lies from (eqb-true r e same), leb-false c e p))
+    go false (inr p) q (inr other) = rw (p, other)
 
 -- something is odd, in one part or another, exactly if not both fit
 pub joined : (odd fits here : Bool) → here ≡ not fits → (not odd && fits) ≡ not (odd || here)

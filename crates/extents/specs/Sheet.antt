@@ -25,6 +25,12 @@ pub record HasEntry (sheet : List ℕ) (n c l : ℕ) : Type 0 where
   pub start : c ≤ n
   pub limit : l ≤ n
 
+-- a start and a limit whose entry is read: the start is not above the limit
+pub record ReadAt (sheet : List ℕ) (n c l : ℕ) : Type 0 where
+  pub size : sized sheet n ≡ true
+  pub order : c ≤ l
+  pub limit : l ≤ n
+
 -- where a half begins: the free ends first, then the greedy ones
 abbrev pub halfFrom : Half → ℕ → ℕ
 halfFrom Free n = 0

@@ -1,12 +1,13 @@
 // The extent sheet: for each start and limit in a line of n bytes, where the free parse of an expression and the greedy
 // decimal parse end. It is added by the port and carries over no Rust file: the Rust's expression parsers stand behind it.
-// `check_sheet` refuses a sheet of the wrong length or with a wrong entry (number 4); the readers answer on every input.
+// `check_sheet` refuses a sheet of the wrong length or with a wrong entry (number 4); the readers ask for a sheet of the right
+// length, and for a start and a limit within the line.
 ghost use mathlib.Core.Path.{_≡_};
 ghost use mathlib.Core.Bool.{true, not, _&&_, _||_};
 ghost use Prim.Native.Nat.{ℕ, _+_, _≤_};
 ghost use lib.Dec.{ltb};
 ghost use Rattle.plain.specs.Below.{everyBelow};
-ghost use Rattle.extents.specs.Sheet.{sized, HasEntry, entryAt, entryFits, fitsAt, rowFits, halfFits, sheetFits};
+ghost use Rattle.extents.specs.Sheet.{sized, HasEntry, ReadAt, entryAt, entryFits, fitsAt, rowFits, halfFits, sheetFits};
 ghost use Rattle.extents.specs.Held.{HeldPlaces};
 ghost use Rattle.extents.specs.declared.Half.the-variants.{Free, Greedy};
 ghost use Rattle.extents.specs.Sheet.{entryEnd, endIn, freeEnd, greedyEnd, endOf};
@@ -99,11 +100,21 @@ pub fn held_places() -> [u8; PLACES]
     list
 }
 
-// Whether an entry is neither 255 nor from its start to its limit. It has no branch, so that many are tried at once.
-fn is_odd(c: u8, l: u8, e: u8) -> bool
-    ensures odd { λ r. ⌜ r ≡ not (entryFits c l e) ⌝ }
+// An entry held to its start from below, and then to its limit from above: it stays itself exactly if it lies between them.
+fn held_between(c: u8, l: u8, e: u8) -> u8
+    ensures stays { λ r. ⌜ (c ≤ e → e ≤ l → r ≡ e) ⌝ }
+    ensures lies { λ r. ⌜ (c ≤ l → r ≡ e → (c ≤ e) × (e ≤ l)) ⌝ }
 {
-    (e != NONE) & ((e < c) | (l < e))
+    let from = if e < c { c } else { e };
+    if l < from { l } else { from }
+}
+
+// Whether an entry is neither 255 nor from its start to its limit, if its start is not above its limit. Nothing goes on from a
+// branch but a number, so that many are tried at once.
+fn is_odd(c: u8, l: u8, e: u8) -> bool
+    ensures odd { λ r. ⌜ (c ≤ l → r ≡ not (entryFits c l e)) ⌝ }
+{
+    (e != NONE) & (held_between(c, l, e) != e)
 }
 
 // Whether an entry of either half is odd, unless its start lies above its limit.
@@ -303,22 +314,15 @@ fn entry_end(byte: u8) -> Extent
 
 // The end that a half has for start c and limit l.
 fn end_in(sheet: &[u8], n: usize, half: Half, c: usize, l: usize) -> Extent
+    requires place { ⌜ ReadAt (now sheet) n c l ⌝ }
     ensures end { λ r. ⌜ endOf r ≡ endIn (now (sheet .entry)) n half c l ⌝ }
 {
-    if !is_sized(sheet, n) {
-        return Extent::Nothing;
-    }
-    if l < c {
-        return Extent::Nothing;
-    }
-    if n < l {
-        return Extent::Nothing;
-    }
     entry_end(entry(sheet, n, half, c, l))
 }
 
 // free(c, l): where the free parse from c under the limit l ends.
 pub fn free(sheet: &[u8], n: usize, c: usize, l: usize) -> Extent
+    requires place { ⌜ ReadAt (now sheet) n c l ⌝ }
     ensures answers { λ r. ⌜ endOf r ≡ freeEnd (now (sheet .entry)) n c l ⌝ }
 {
     end_in(sheet, n, Half::Free, c, l)
@@ -326,6 +330,7 @@ pub fn free(sheet: &[u8], n: usize, c: usize, l: usize) -> Extent
 
 // greedy(c, l): where the greedy decimal parse from c under the limit l ends.
 pub fn greedy(sheet: &[u8], n: usize, c: usize, l: usize) -> Extent
+    requires place { ⌜ ReadAt (now sheet) n c l ⌝ }
     ensures answers { λ r. ⌜ endOf r ≡ greedyEnd (now (sheet .entry)) n c l ⌝ }
 {
     end_in(sheet, n, Half::Greedy, c, l)

@@ -1,39 +1,52 @@
 -- The line's check: the scan for the first bad byte, for the code, and that a line has no fault exactly if it is good.
 use mathlib.Core.Path.{_≡_, refl, sym, ap, _∙_}
 use mathlib.Core.Logic.{_↔_}
-use mathlib.Core.Bool.{Bool, true, false, not, _&&_}
+use mathlib.Core.Bool.{Bool, true, false, not, _&&_, _||_}
 use mathlib.Core.List.{List, [], _∷_}
 use mathlib.Core.Option.{Option, none, some, Option·some-ne-none}
 use Prim.Native.Nat.{ℕ, zero, suc, _+_, _-_, _≤_, _<_}
 use native.Mathlib.Numerals.{add-one}
+use native.Mathlib.Decide.{decLt}
 use native.Mathlib.Omega.{arith}
-use lib.Dec.{ltb, eqb}
+use lib.Dec.{leb, ltb, eqb}
 use lib.ListN.{length, getD, drop}
 use lib.Seq.{drop-cons, drop-length}
 use borrow.Author.Tests.{lt-ltb, le-ltb, ltb-true, ltb-false, le-leb, lt-leb}
 use Rattle.plain.specs.Choice.{select}
 use Rattle.token.specs.Token.{isWhitespace}
+use Rattle.token.proofs.Bytes.{white-above}
 use Rattle.syntax.specs.Walker.{byteAt}
 use Rattle.line.specs.Line.{isAllowed, GoodLine, firstBad, endsOpen, orElse, faultAt, numbered, lineVerdict}
 
 -- ---- a byte, as the code tests it
 
 module _ (b : ℕ) where
-  pub allowed-space : isWhitespace b ≡ true → true ≡ isAllowed b
-  unfolding isAllowed
-  allowed-space e = rw (isAllowed, e)
+  printed : 33 ≤ b → false ≡ isWhitespace b
+  printed h = white-above 32 b (omega arith) (omega arith)
 
-  pub allowed-low : isWhitespace b ≡ false → b < 33 → false ≡ isAllowed b
+  pub allowed-low : b < 33 → isWhitespace b ≡ isAllowed b
   unfolding isAllowed
-  allowed-low e h = rw (isAllowed, e, lt-leb 33 b h)
+  allowed-low h = go (isWhitespace b)
+    where
+      go : (w : Bool) → w ≡ (w || leb 33 b && leb b 126 && not (eqb b 59))
+      go true = refl
+      go false = rw (lt-leb 33 b h)
 
-  pub allowed-high : isWhitespace b ≡ false → 33 ≤ b → 126 < b → false ≡ isAllowed b
+  pub allowed-high : 33 ≤ b → 126 < b → false ≡ isAllowed b
   unfolding isAllowed
-  allowed-high e h k = rw (isAllowed, e, le-leb 33 b h, lt-leb b 126 k)
+  allowed-high h k = rw (isAllowed, sym (printed h), le-leb 33 b h, lt-leb b 126 k)
 
-  pub allowed-printed : isWhitespace b ≡ false → 33 ≤ b → b ≤ 126 → not (eqb b 59) ≡ isAllowed b
+  pub allowed-printed : 33 ≤ b → b ≤ 126 → not (eqb b 59) ≡ isAllowed b
   unfolding isAllowed
-  allowed-printed e h k = rw (isAllowed, e, le-leb 33 b h, le-leb b 126 k)
+  allowed-printed h k = rw (isAllowed, sym (printed h), le-leb 33 b h, le-leb b 126 k)
+
+  -- of the bytes that a line may hold, those below the printed ones are whitespace, and no others
+  pub low-white : isAllowed b ≡ true → ltb b 33 ≡ isWhitespace b
+  low-white good =
+      elim (decLt b 33) [
+        | yes low ↦ lt-ltb b 33 low ∙ sym (allowed-low low ∙ good)
+        | no d ↦ le-ltb b 33 (omega (arith, d)) ∙ printed (omega (arith, d))
+      ]
 
 -- ---- the scan's steps
 

@@ -1,6 +1,8 @@
 // The line's check, added by the port: number 3 and its place. The Rust's matcher takes any text and has no such check; what
 // makes its lines is not in the published text.
 ghost use mathlib.Core.Path.{_≡_};
+ghost use mathlib.Core.Bool.{true};
+ghost use Rattle.token.specs.Token.{isWhitespace};
 ghost use Rattle.line.specs.Line.{isAllowed, lineSays, lineVerdict};
 
 const LONGEST: usize = 120;
@@ -21,16 +23,21 @@ pub enum LineCheck {
 fn is_allowed(b: u8) -> bool
     ensures { λ r. ⌜ r ≡ isAllowed b ⌝ }
 {
-    if token::is_whitespace(b) {
-        return true;
-    }
     if b < FIRST_PRINTED {
-        return false;
+        return token::is_whitespace(b);
     }
     if LAST_PRINTED < b {
         return false;
     }
     b != SEMICOLON
+}
+
+// Whether a byte that a line may hold is whitespace: the others are all printed ones, so one comparison tells.
+pub fn is_whitespace(b: u8) -> bool
+    requires { ⌜ isAllowed b ≡ true ⌝ }
+    ensures answers { λ r. ⌜ r ≡ isWhitespace b ⌝ }
+{
+    b < FIRST_PRINTED
 }
 
 // At most 120 bytes, each one allowed, the last no whitespace. The place is 120 if the line is too long, else the

@@ -3,7 +3,7 @@
 use mathlib.Core.Path.{_≡_, refl, sym, ap, _∙_}
 use mathlib.Core.Bool.{Bool, true, false, _||_}
 use mathlib.Core.List.{List, [], _∷_, _++_, append-nil}
-use mathlib.Core.Option.{Option, none}
+use mathlib.Core.Option.{Option, none, some, Option·none-ne-some}
 use Prim.Native.Nat.{ℕ, zero, suc, _+_, _≤_, _<_, min}
 use native.Mathlib.Numerals.{add-one}
 use native.Mathlib.Omega.{arith}
@@ -12,6 +12,7 @@ use lib.Seq.{slice, drop-cons, ext-getD, getD-at, getD-take}
 use borrow.Author.Tests.{eq-eqb, ne-eqb}
 use Rattle.plain.specs.Lists.{range, listed}
 use Rattle.plain.proofs.Lists.{listed-length, listed-at, listed-set}
+use Rattle.plain.proofs.Tests.{and-left}
 use Rattle.syntax.specs.Walker.{held, movedTo, useful}
 use Rattle.syntax.specs.declared.walker.Walker.{Walker}
 use Rattle.syntax.specs.Cut.{cutSays}
@@ -19,10 +20,11 @@ use Rattle.syntax.specs.declared.walker.Lookahead.{Lookahead}
 use Rattle.syntax.specs.declared.walker.Lookahead.the-variants.{At, Nothing}
 use Rattle.syntax.proofs.Useful.{InLine, held-is-within}
 use Rattle.defs.specs.declared.ruledef.Part.{Part}
-use Rattle.extents.specs.Sheet.{freeEnd, greedyEnd, endOf}
+use Rattle.extents.specs.Sheet.{sized, sheetFits, ReadAt, freeEnd, greedyEnd, endOf}
 use Rattle.extents.specs.declared.Extent.{Extent}
 use Rattle.extents.specs.declared.Extent.the-variants as Extent
 use Rattle.readings.specs.Scene.{Scene, walkerAt, sceneOf}
+use Rattle.readings.proofs.Packed.{lawful}
 use Rattle.readings.specs.Walk.{lookahead, cutBy, cutFor, listOf, unless, anySame, sameEnd, freeUnder, ends, limits}
 use Rattle.lookahead.specs.Held.{charSays, heldEnds, heldLimits, added}
 use Rattle.lookahead.specs.declared.Character.{Character}
@@ -157,6 +159,27 @@ module _ (sheet : List ℕ) (n c : ℕ) (cut : Lookahead) where
 
   pub free-none : cut ≡ Nothing → none ≡ freeUnder (freeEnd sheet n) c (cutSays cut)
   free-none e = ap (λ (x : Lookahead). freeUnder (freeEnd sheet n) c (cutSays x)) (sym e)
+
+-- what is read of a good sheet by a walker that stands within the line: the entry under its limit, and the one under its cut
+module _ (t line sheet : List ℕ) (good : sheetFits sheet (length line) ≡ true) (w : Walker) (order : w .cursor ≤ w .limit) (limit : w .limit ≤ length line) {c : ℕ} (cursor-is : c ≡ w .cursor) where
+  long-enough : sized sheet (length line) ≡ true
+  unfolding sheetFits
+  long-enough = and-left (sized sheet (length line)) _ good
+
+  pub read-whole : {l : ℕ} → l ≡ w .limit → ReadAt sheet (length line) c l
+  read-whole limit-is = record { size = long-enough; order = omega (arith, order); limit = omega (arith, limit) }
+
+  cut-between : (m : ℕ) (o : Option ℕ) → cutBy (sceneOf t line sheet) (w .limit) (w .cursor) o ≡ some m → (w .cursor ≤ m) × (m ≤ w .limit)
+  cut-between m none e = absurd (Option·none-ne-some m e)
+  cut-between m (some x) e = lawful t line sheet good .cut-within x (w .limit) (w .cursor) m order e
+
+  pub read-cut :
+      (ps : List Part) (cut : Lookahead) → cutSays cut ≡ cutFor (sceneOf t line []) (w .limit) (w .cursor) ps →
+      (m : ℕ) → cutSays cut ≡ some m → ReadAt sheet (length line) c m
+  unfolding cutFor
+  read-cut ps cut at m e =
+      let between = cut-between m (lookahead ps) (sym (sheet-free t line [] sheet (w .limit) (w .cursor) ps) ∙ sym at ∙ e) in
+      record { size = long-enough; order = omega (arith, between); limit = omega (arith, between, limit) }
 
 -- ---- the ends
 

@@ -1,8 +1,8 @@
 // The choices of a parameter's step: the lookahead character, the cut, an expression's candidate ends, and the limits
 // under which a nested step tries its ruleset. From `src/asm/matcher/mod.rs`: `find_lookahead_char`,
 // `parse_with_lookahead`, `parse_with_and_without_lookahead`, whose parser becomes plain calls, and `remove_duplicates` as
-// `match_with_expr` uses it. Nothing is refused: any words, line, sheet, walker and places; for the ends the line comes with its
-// own useful places.
+// `match_with_expr` uses it. Nothing is refused: any words, line, walker and places; for the ends the line comes with its own
+// useful places and a good sheet, and the walker stands within it.
 use defs::ruledef;
 use defs::ruledef::Part;
 use extents::Extent;
@@ -10,14 +10,16 @@ use syntax::walker::Lookahead;
 use syntax::walker::Walker;
 use useful::PLACES;
 ghost use mathlib.Core.Path.{_≡_};
+ghost use mathlib.Core.Bool.{true};
 ghost use mathlib.Core.List.{List, []};
+ghost use mathlib.Core.Option.{some};
 ghost use Prim.Native.Nat.{ℕ, _≤_, _<_};
 ghost use lib.ListN.{length, take};
 ghost use Rattle.syntax.specs.Walker.{useful};
 ghost use Rattle.syntax.specs.Cut.{cutSays};
 ghost use Rattle.useful.specs.Useful.{Lent};
 ghost use Rattle.defs.specs.Table.{partsBetween};
-ghost use Rattle.extents.specs.Sheet.{endOf, freeEnd};
+ghost use Rattle.extents.specs.Sheet.{sheetFits, ReadAt, endOf, freeEnd};
 ghost use Rattle.readings.specs.Scene.{walkerAt, sceneOf};
 ghost use Rattle.readings.specs.Walk.{lookahead, cutFor, freeUnder, anySame, sameEnd, ends, limits};
 ghost use Rattle.lookahead.specs.Held.{charSays, heldEnds, heldLimits, added};
@@ -62,7 +64,7 @@ pub fn find_lookahead_char(table: &[u16], at: usize, end: usize) -> Character
     let stop = within(table, end);
     let mut here = at;
     while here < stop {
-        match ruledef::part_at(table, here) {
+        match ruledef::part_within(table, here) {
             Part::Exact(b) => return Character::Found(b),
             Part::Whitespace => here += 1,
             Part::Expression => return Character::Nothing,
@@ -133,6 +135,7 @@ fn add_end(line: &[u8], useful: &[u8; PLACES], walker: Walker, ends: Ends, exten
 
 // free(c, cut), if there is a cut.
 fn free_to_cut(sheet: &[u8], n: usize, c: usize, cut: Lookahead) -> Extent
+    requires { ⌜ ((m : ℕ) → cutSays cut ≡ some m → ReadAt (now sheet) n c m) ⌝ }
     ensures { λ r. ⌜ endOf r ≡ freeUnder (freeEnd (now (sheet .entry)) n) c (cutSays cut) ⌝ }
 {
     match cut {
@@ -153,6 +156,9 @@ pub fn find_ends(
     end: usize,
 ) -> Ends
     requires { ⌜ Lent (now line) (now useful) ⌝ }
+    requires { ⌜ sheetFits (now sheet) (length (now line)) ≡ true ⌝ }
+    requires { ⌜ walker .cursor ≤ walker .limit ⌝ }
+    requires { ⌜ walker .limit ≤ length (now line) ⌝ }
     ensures answers { λ r. ⌜ r ≡ heldEnds (ends (sceneOf (now (table .entry)) (now (line .entry)) (now (sheet .entry))) (walker .limit) (walker .cursor) (partsBetween (now (table .entry)) at end)) ⌝ }
 {
     let n = line.len();

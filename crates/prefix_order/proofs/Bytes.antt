@@ -1,6 +1,6 @@
 -- No byte of a line's prefix is 0: its bytes are those of an accepted line that are no whitespace, so all are 33 or more; and
 -- lowering lowers none.
-use mathlib.Core.Path.{_≡_, refl, sym}
+use mathlib.Core.Path.{_≡_, refl, sym, _∙_}
 use mathlib.Core.Bool.{Bool, true, false}
 use mathlib.Core.List.{List, [], _∷_, map}
 use mathlib.Core.Option.{none}
@@ -27,9 +27,9 @@ solid-bytes (b ∷ line) h = go (isSolid b) refl (solid-bytes line (every-tail i
   where
     byte : isWhitespace b ≡ false → isByte (lowered b) ≡ true
     byte solid =
-        less-or-not b 33 (λ l. absurd (not-both (every-head isAllowed b line h) (sym (allowed-low b solid l))))
+        less-or-not b 33 (λ l. absurd (not-both (every-head isAllowed b line h) (sym (allowed-low b l) ∙ solid)))
         (λ l.
-        less-or-not 126 b (λ k. absurd (not-both (every-head isAllowed b line h) (sym (allowed-high b solid l k))))
+        less-or-not 126 b (λ k. absurd (not-both (every-head isAllowed b line h) (sym (allowed-high b l k))))
         (λ k. lowered-byte b (omega arith) (omega arith)))
 
     go :

@@ -14,6 +14,7 @@ use Rattle.plain.proofs.Members.{kept-has}
 use Rattle.ruledef_map.specs.RuledefMap.{linePrefix}
 use Rattle.defs.specs.Table.{tableFits}
 use Rattle.readings.specs.Tree.{Tree, moved}
+use Rattle.line.specs.Line.{GoodLine}
 use Rattle.line.proofs.Lines.{good-is}
 use Rattle.readings.specs.Scene.{Scene, Lawful, sceneOf, based}
 use Rattle.readings.specs.Plan.{Outcome, done, stop, run}
@@ -173,8 +174,8 @@ module _ {t line sheet starts places store₀ rules : List ℕ} {count budget ba
   unfolding sceneOf based
   words-alone us = words-free t line sheet 0 us
 
-  pub line-short : length line ≤ 120
-  line-short = good-is line .0 (asked .lined .bytes) .short
+  pub line-good : GoodLine line
+  line-good = good-is line .0 (asked .lined .bytes)
 
   pub try-asked : TryAsked t line sheet starts places store₀ rules count budget
   try-asked = record {

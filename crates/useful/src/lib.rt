@@ -7,6 +7,7 @@ use syntax::walker::least;
 ghost use mathlib.Core.Path.{_≡_};
 ghost use Prim.Native.Nat.{_≤_};
 ghost use lib.ListN.{length};
+ghost use Rattle.line.specs.Line.{GoodLine};
 ghost use Rattle.syntax.specs.Walker.{held, useful, stepSays, expectChar, expectWhitespace};
 ghost use Rattle.useful.specs.Useful.{usefulPlaces, Lent};
 
@@ -16,7 +17,7 @@ pub const PLACES: usize = 121;
 // The useful place of each place of the line, its end included; past that each is its own. Worked out from the line's end to its
 // beginning: a place that holds no whitespace is its own too.
 pub fn useful_places(line: &[u8]) -> [u8; PLACES]
-    requires { ⌜ length (now line) ≤ 120 ⌝ }
+    requires { ⌜ GoodLine (now line) ⌝ }
     ensures answers { λ r. ⌜ r ≡ usefulPlaces (now (line .entry)) ⌝ }
 {
     let mut places = extents::held_places();
@@ -25,7 +26,7 @@ pub fn useful_places(line: &[u8]) -> [u8; PLACES]
         let after = at;
         at -= 1;
         let b = line[at];
-        if token::is_whitespace(b) {
+        if line::is_whitespace(b) {
             places[at] = places[after];
         }
     }

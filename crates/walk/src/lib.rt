@@ -214,7 +214,7 @@ pub fn match_with_rule(
         if at == end {
             return finish(table, line, store, place, exact + passed, here, left, pool);
         }
-        let part = ruledef::part_at(table, at);
+        let part = ruledef::part_within(table, at);
         at += 1;
         match part {
             Part::Exact(b) => {

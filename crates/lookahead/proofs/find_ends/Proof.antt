@@ -2,7 +2,8 @@
 use mathlib.Core.Path.{_∙_}
 use mathlib.Core.List.{[]}
 use borrow.Author.Needs.{needs}
-use Rattle.lookahead.proofs.Stored.{held-none, room-two, room-three, ends-held}
+use denote.Ref.{now}
+use Rattle.lookahead.proofs.Stored.{read-whole, read-cut, held-none, room-two, room-three, ends-held}
 use Rattle.lookahead.proofs.find_ends.Statement.{statement}
 use Rattle.lookahead.proofs.find_ends.Tie as tie
 
@@ -13,7 +14,7 @@ get-cursor-limit-requires : tie.Need-get-cursor-limit-requires
 get-cursor-limit-requires c κs = search needs
 
 free-requires : tie.Need-free-requires
-free-requires c κs = search needs
+free-requires c κs = read-whole [] (now (c .before .before .before .before .before .args .line)) _ (c .before .before .before .before .before .pre .1 .0) _ (c .before .before .before .before .before .pre .1 .1 .0) (c .before .before .before .before .before .pre .1 .1 .1) (c .before .get-cursor-index .ensures) (c .get-cursor-limit .ensures)
 
 add-end-requires : tie.Need-add-end-requires
 add-end-requires c κs = search needs
@@ -22,13 +23,13 @@ find-cut-requires : tie.Need-find-cut-requires
 find-cut-requires c κs = search needs
 
 free-to-cut-requires : tie.Need-free-to-cut-requires
-free-to-cut-requires c κs = search needs
+free-to-cut-requires c κs = read-cut _ (now (c .before .before .before .before .before .before .before .before .args .line)) _ (c .before .before .before .before .before .before .before .before .pre .1 .0) _ (c .before .before .before .before .before .before .before .before .pre .1 .1 .0) (c .before .before .before .before .before .before .before .before .pre .1 .1 .1) (c .before .before .before .before .get-cursor-index .ensures) _ (c .find-cut .result) (c .find-cut .ensures)
 
 add-end-requires-2 : tie.Need-add-end-requires-2
 add-end-requires-2 c κs = (search needs, room-two _ _ _ (c .before .before .add-end .ensures [] held-none))
 
 greedy-requires : tie.Need-greedy-requires
-greedy-requires c κs = search needs
+greedy-requires c κs = read-whole [] (now (c .before .before .before .before .before .before .before .before .before .before .args .line)) _ (c .before .before .before .before .before .before .before .before .before .before .pre .1 .0) _ (c .before .before .before .before .before .before .before .before .before .before .pre .1 .1 .0) (c .before .before .before .before .before .before .before .before .before .before .pre .1 .1 .1) (c .before .before .before .before .before .before .get-cursor-index .ensures) (c .before .before .before .before .before .get-cursor-limit .ensures)
 
 add-end-requires-3 : tie.Need-add-end-requires-3
 add-end-requires-3 c κs = (search needs, room-three _ _ _ _ (c .before .add-end2 .ensures _ (c .before .before .before .before .add-end .ensures [] held-none)))

@@ -1,6 +1,7 @@
 -- The sheet's end under the cut, or none.
-use mathlib.Core.Path.{_∙_}
+use mathlib.Core.Path.{ap, _∙_}
 use borrow.Author.Needs.{needs}
+use Rattle.syntax.specs.Cut.{cutSays}
 use Rattle.lookahead.proofs.Stored.{free-at, free-none}
 use Rattle.lookahead.proofs.free_to_cut.Statement.{statement}
 use Rattle.lookahead.proofs.free_to_cut.Tie as tie
@@ -9,7 +10,7 @@ enum-known-cut : tie.Need-enum-known-cut
 enum-known-cut c = search needs
 
 free-requires : tie.Need-free-requires
-free-requires c κs = search needs
+free-requires c κs = c .before .before .before .before .pre _ (ap cutSays (c .before .cut .given .1))
 
 enum-told : tie.Need-enum-told
 enum-told c = search needs

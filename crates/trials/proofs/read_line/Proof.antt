@@ -1,16 +1,16 @@
 -- `trials::read_line` meets its contract.
 use mathlib.Core.Path.{refl}
 use native.Mathlib.Omega.{arith}
-use Rattle.trials.proofs.Telling.{line-short, try-asked, listed-by, stopped-by, call-within, call-stopped, call-left, call-asked, call-told}
+use Rattle.trials.proofs.Telling.{line-good, try-asked, listed-by, stopped-by, call-within, call-stopped, call-left, call-asked, call-told}
 use borrow.Author.Needs.{needs}
 use Rattle.trials.proofs.read_line.Statement.{statement}
 use Rattle.trials.proofs.read_line.Tie as tie
 
 useful-places-requires : tie.Need-useful-places-requires
-useful-places-requires c κs = line-short (c .before .before .before .before .before .before .before .before .pre .0)
+useful-places-requires c κs = line-good (c .before .before .before .before .before .before .before .before .pre .0)
 
 try-rules-requires : tie.Need-try-rules-requires
-try-rules-requires c κs = (try-asked (c .before .before .before .before .before .before .before .before .before .before .before .pre .0), record { places = record { short = line-short (c .before .before .before .before .before .before .before .before .before .before .before .pre .0); are = c .before .before .useful-places .ensures }; leads = c .before .before .before .before .before .before .before .before .before .before .before .pre .1 })
+try-rules-requires c κs = (try-asked (c .before .before .before .before .before .before .before .before .before .before .before .pre .0), record { places = record { short = line-good (c .before .before .before .before .before .before .before .before .before .before .before .pre .0) .short; are = c .before .before .useful-places .ensures }; leads = c .before .before .before .before .before .before .before .before .before .before .before .pre .1 })
 
 enum-known-walked : tie.Need-enum-known-walked
 enum-known-walked c = search needs

@@ -16,7 +16,7 @@ held-places-requires : tie.Need-held-places-requires Inv-loop μ-loop
 held-places-requires c κs = search needs
 
 loop-holds : tie.Need-loop-holds Inv-loop μ-loop
-loop-holds c = filled-end _ (c .before .before .pre) _ (c .held-places .ensures)
+loop-holds c = filled-end _ (c .before .before .pre .short) _ (c .held-places .ensures)
 
 sub-at : tie.Need-sub-at Inv-loop μ-loop
 sub-at c = search needs
@@ -25,7 +25,7 @@ shared-slice-read-b : tie.Need-shared-slice-read-b Inv-loop μ-loop
 shared-slice-read-b c = search needs
 
 is-whitespace-requires : tie.Need-is-whitespace-requires Inv-loop μ-loop
-is-whitespace-requires c κs = search needs
+is-whitespace-requires c κs = c .before .before .before .before .before .pre .bytes _ (omega (arith, c .before .before .loop .inv .below, c .before .loop-test .taken))
 
 array-read-places : tie.Need-array-read-places Inv-loop μ-loop
 array-read-places c = search needs
@@ -37,16 +37,16 @@ loop-less : tie.Need-loop-less Inv-loop μ-loop
 loop-less c = search needs
 
 loop-again : tie.Need-loop-again Inv-loop μ-loop
-loop-again c = filled-white _ (c .before .before .before .before .before .before .before .pre) _ _ (c .before .before .before .before .loop .inv) (omega (arith, c .before .before .before .loop-test .taken)) (sym (c .before .is-whitespace .ensures) ∙ c .if1 .taken)
+loop-again c = filled-white _ (c .before .before .before .before .before .before .before .pre .short) _ _ (c .before .before .before .before .loop .inv) (omega (arith, c .before .before .before .loop-test .taken)) (sym (c .before .is-whitespace .ensures) ∙ c .if1 .taken)
 
 loop-less-2 : tie.Need-loop-less-2 Inv-loop μ-loop
 loop-less-2 c = search needs
 
 loop-again-2 : tie.Need-loop-again-2 Inv-loop μ-loop
-loop-again-2 c = filled-solid _ (c .before .before .before .before .before .before .before .pre) _ _ (c .before .before .before .before .loop .inv) (omega (arith, c .before .before .before .loop-test .taken)) (sym (c .before .is-whitespace .ensures) ∙ c .if1 .left)
+loop-again-2 c = filled-solid _ (c .before .before .before .before .before .before .before .pre .short) _ _ (c .before .before .before .before .loop .inv) (omega (arith, c .before .before .before .loop-test .taken)) (sym (c .before .is-whitespace .ensures) ∙ c .if1 .left)
 
 returns : tie.Need-returns Inv-loop μ-loop
-returns c = filled-all _ (c .before .before .before .before .pre) _ _ (c .before .loop .inv) (omega (arith, c .loop-test .left))
+returns c = filled-all _ (c .before .before .before .before .pre .short) _ _ (c .before .loop .inv) (omega (arith, c .loop-test .left))
 
 pub useful-places-spec : {M : Type 1} → statement M
 useful-places-spec =

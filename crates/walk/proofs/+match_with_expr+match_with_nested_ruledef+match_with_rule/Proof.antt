@@ -20,7 +20,7 @@ use Rattle.walk.proofs.+match_with_expr+match_with_nested_ruledef+match
 use Rattle.walk.proofs.match_with_rule.Reads as rule
 use Rattle.walk.proofs.match_with_rule.Kinds as rule-kinds
 use Rattle.walk.proofs.+match_with_expr+match_with_nested_ruledef+match_with_rule.Lts-match_with_rule as R
-use Rattle.defs.proofs.ruledef.part_at.Reads as part-at
+use Rattle.defs.proofs.ruledef.part_within.Reads as part-within
 use Rattle.defs.proofs.ruledef.parts_of.Reads as parts-of
 use Rattle.leads.proofs.look_ahead.Reads as look-ahead
 use Rattle.leads.proofs.failing_visits.Reads as failing-visits
@@ -75,7 +75,7 @@ abbrev n-calls : ℕ → N.Claims
 n-calls t = (next-useful-index.Asked, next-useful-index.Learnt, find-limits.Asked, find-limits.Learnt, set-cursor-limit.Asked, set-cursor-limit.Learnt, look-ahead.Asked, look-ahead.Learnt, failing-visits.Asked, failing-visits.Learnt, parts-of.Asked, parts-of.Learnt, r-below t, rule.Post, inner-match.Asked, inner-match.Learnt, least.Asked, least.Learnt, keep.Asked, keep.Learnt, after.Asked, after.Learnt, set-cursor-index.Asked, set-cursor-index.Learnt)
 
 abbrev r-calls : ℕ → R.Claims
-r-calls t = (finish.Asked, finish.Learnt, part-at.Asked, part-at.Learnt, maybe-expect-char.Asked, maybe-expect-char.Learnt, maybe-expect-whitespace.Asked, maybe-expect-whitespace.Learnt, past.Asked, past.Learnt, e-below t, expr.Post, n-below t, nested.Post)
+r-calls t = (finish.Asked, finish.Learnt, part-within.Asked, part-within.Learnt, maybe-expect-char.Asked, maybe-expect-char.Learnt, maybe-expect-whitespace.Asked, maybe-expect-whitespace.Learnt, past.Asked, past.Learnt, e-below t, expr.Post, n-below t, nested.Post)
 
 abbrev e-Inv : E.InvT-loop
 e-Inv table line places sheet starts leads store₀ place exact walker visits begins ends left₀ has₀ i₀ store left has i =
@@ -120,7 +120,7 @@ e-next-useful-index-requires t c κs =
 e-find-ends-requires : (t : ℕ) → E.Need-find-ends-requires (e-calls t) (e-at t) expr.Post e-Inv e-μ
 e-find-ends-requires t c κs =
     let c-pre = c .before .before .before .before .before .before .pre in
-    c-pre .1 .1 .1 .places
+    (c-pre .1 .1 .1 .places, (c-pre .1 .0 .extents, (c-pre .1 .0 .cursor, c-pre .1 .0 .limit)))
 
 e-loop-holds : (t : ℕ) → E.Need-loop-holds (e-calls t) (e-at t) expr.Post e-Inv e-μ
 e-loop-holds t c =
@@ -881,8 +881,12 @@ r-returns-2 t c =
     let c-finish = c .before .before .finish in
     (along-end (c-pre .1 .0) _ (c-loop .inv) (c-if1 .left) (c-if2 .taken) (c-finish .ensures))
 
-r-part-at-requires : (t : ℕ) → R.Need-part-at-requires (r-calls t) (r-at t) rule.Post r-Inv r-μ
-r-part-at-requires t c κs = search needs
+r-part-within-requires : (t : ℕ) → R.Need-part-within-requires (r-calls t) (r-at t) rule.Post r-Inv r-μ
+r-part-within-requires t c κs =
+    let c-pre = c .before .before .before .before .before .before .before .before .pre in
+    let c-loop = c .before .before .loop in
+    let c-if2 = c .if2 in
+    omega (arith, c-loop .inv .within, c-pre .1 .0 .whole, c-if2 .left)
 
 r-add-at : (t : ℕ) → R.Need-add-at (r-calls t) (r-at t) rule.Post r-Inv r-μ
 r-add-at t c =
@@ -919,11 +923,11 @@ r-loop-again t c =
     let c-loop = c .before .before .before .before .before .before .before .before .before .before .loop in
     let c-if1 = c .before .before .before .before .before .before .before .before .before .if1 in
     let c-if2 = c .before .before .before .before .before .before .before .before .if2 in
-    let c-part-at = c .before .before .before .before .before .before .before .part-at in
+    let c-part-within = c .before .before .before .before .before .before .before .part-within in
     let c-part = c .before .before .before .before .before .part in
     let c-maybe-expect-char = c .before .before .before .maybe-expect-char in
     let c-step = c .before .step in
-    along-by (omega arith) (along-exact (c-pre .1 .0) _ (c-loop .inv) (c-if1 .left) (c-if2 .left) _ (c-part-at .ensures) (c-part .given .1) _ (c-maybe-expect-char .ensures) (c-step .given .1))
+    along-by (omega arith) (along-exact (c-pre .1 .0) _ (c-loop .inv) (c-if1 .left) (c-if2 .left) _ (c-part-within .ensures) (c-part .given .1) _ (c-maybe-expect-char .ensures) (c-step .given .1))
 
 r-enum-told : (t : ℕ) → R.Need-enum-told (r-calls t) (r-at t) rule.Post r-Inv r-μ
 r-enum-told t c = search needs
@@ -939,11 +943,11 @@ r-returns-3 t c =
     let c-loop = c .before .before .before .before .before .before .before .before .before .loop in
     let c-if1 = c .before .before .before .before .before .before .before .before .if1 in
     let c-if2 = c .before .before .before .before .before .before .before .if2 in
-    let c-part-at = c .before .before .before .before .before .before .part-at in
+    let c-part-within = c .before .before .before .before .before .before .part-within in
     let c-part = c .before .before .before .before .part in
     let c-maybe-expect-char = c .before .before .maybe-expect-char in
     let c-enum-told = c .enum-told in
-    (along-no-exact (c-pre .1 .0) _ (c-loop .inv) (c-if1 .left) (c-if2 .left) _ (c-part-at .ensures) (c-part .given .1) _ (c-maybe-expect-char .ensures) (c-enum-told .given .1))
+    (along-no-exact (c-pre .1 .0) _ (c-loop .inv) (c-if1 .left) (c-if2 .left) _ (c-part-within .ensures) (c-part .given .1) _ (c-maybe-expect-char .ensures) (c-enum-told .given .1))
 
 r-enum-told-2 : (t : ℕ) → R.Need-enum-told-2 (r-calls t) (r-at t) rule.Post r-Inv r-μ
 r-enum-told-2 t c = search needs
@@ -968,11 +972,11 @@ r-loop-again-2 t c =
     let c-loop = c .before .before .before .before .before .before .before .before .before .loop in
     let c-if1 = c .before .before .before .before .before .before .before .before .if1 in
     let c-if2 = c .before .before .before .before .before .before .before .if2 in
-    let c-part-at = c .before .before .before .before .before .before .part-at in
+    let c-part-within = c .before .before .before .before .before .before .part-within in
     let c-enum-told2 = c .before .before .before .before .enum-told2 in
     let c-maybe-expect-whitespace = c .before .before .before .maybe-expect-whitespace in
     let c-step2 = c .before .step2 in
-    along-whitespace (c-pre .1 .0) _ (c-loop .inv) (c-if1 .left) (c-if2 .left) _ (c-part-at .ensures) (c-enum-told2 .given .1) _ (c-maybe-expect-whitespace .ensures) (c-step2 .given .1)
+    along-whitespace (c-pre .1 .0) _ (c-loop .inv) (c-if1 .left) (c-if2 .left) _ (c-part-within .ensures) (c-enum-told2 .given .1) _ (c-maybe-expect-whitespace .ensures) (c-step2 .given .1)
 
 r-enum-told-3 : (t : ℕ) → R.Need-enum-told-3 (r-calls t) (r-at t) rule.Post r-Inv r-μ
 r-enum-told-3 t c = search needs
@@ -988,11 +992,11 @@ r-returns-4 t c =
     let c-loop = c .before .before .before .before .before .before .before .before .loop in
     let c-if1 = c .before .before .before .before .before .before .before .if1 in
     let c-if2 = c .before .before .before .before .before .before .if2 in
-    let c-part-at = c .before .before .before .before .before .part-at in
+    let c-part-within = c .before .before .before .before .before .part-within in
     let c-enum-told2 = c .before .before .before .enum-told2 in
     let c-maybe-expect-whitespace = c .before .before .maybe-expect-whitespace in
     let c-enum-told3 = c .enum-told3 in
-    (along-no-whitespace (c-pre .1 .0) _ (c-loop .inv) (c-if1 .left) (c-if2 .left) _ (c-part-at .ensures) (c-enum-told2 .given .1) _ (c-maybe-expect-whitespace .ensures) (c-enum-told3 .given .1))
+    (along-no-whitespace (c-pre .1 .0) _ (c-loop .inv) (c-if1 .left) (c-if2 .left) _ (c-part-within .ensures) (c-enum-told2 .given .1) _ (c-maybe-expect-whitespace .ensures) (c-enum-told3 .given .1))
 
 r-enum-told-4 : (t : ℕ) → R.Need-enum-told-4 (r-calls t) (r-at t) rule.Post r-Inv r-μ
 r-enum-told-4 t c = search needs
@@ -1012,10 +1016,10 @@ r-match-with-expr-requires t c κs =
     let c-if1 = c .before .before .before .before .before .before .if1 in
     let c-pre = c .before .before .before .before .before .before .before .before .before .before .before .before .before .pre in
     let c-if2 = c .before .before .before .before .before .if2 in
-    let c-part-at = c .before .before .before .before .part-at in
+    let c-part-within = c .before .before .before .before .part-within in
     let c-past = c .before .past in
     let c-enum-told4 = c .before .before .enum-told4 in
-    (omega (arith, c-loop .inv .falls, c-if1 .left, c-pre .0), (step-ready (c-pre .1 .0) _ (c-loop .inv) (c-if1 .left) (c-if2 .left) _ (c-part-at .ensures) (c-past .ensures), (step-stands (c-pre .1 .0) _ (c-loop .inv) (c-if1 .left) (c-if2 .left) _ (c-part-at .ensures) (c-enum-told4 .given .1) (c-past .ensures), c-pre .1 .1 .1)))
+    (omega (arith, c-loop .inv .falls, c-if1 .left, c-pre .0), (step-ready (c-pre .1 .0) _ (c-loop .inv) (c-if1 .left) (c-if2 .left) _ (c-part-within .ensures) (c-past .ensures), (step-stands (c-pre .1 .0) _ (c-loop .inv) (c-if1 .left) (c-if2 .left) _ (c-part-within .ensures) (c-enum-told4 .given .1) (c-past .ensures), c-pre .1 .1 .1)))
 
 r-same-length-5 : (t : ℕ) → R.Need-same-length-5 (r-calls t) (r-at t) rule.Post r-Inv r-μ
 r-same-length-5 t c =
@@ -1029,11 +1033,11 @@ r-returns-5 t c =
     let c-loop = c .before .before .before .before .before .before .before .before .before .before .loop in
     let c-if1 = c .before .before .before .before .before .before .before .before .before .if1 in
     let c-if2 = c .before .before .before .before .before .before .before .before .if2 in
-    let c-part-at = c .before .before .before .before .before .before .before .part-at in
+    let c-part-within = c .before .before .before .before .before .before .before .part-within in
     let c-enum-told4 = c .before .before .before .before .before .enum-told4 in
     let c-past = c .before .before .before .before .past in
     let c-match-with-expr = c .before .before .match-with-expr in
-    (along-expression (c-pre .1 .0) _ (c-loop .inv) (c-if1 .left) (c-if2 .left) _ (c-part-at .ensures) (c-enum-told4 .given .1) (c-past .ensures) (c-match-with-expr .ensures))
+    (along-expression (c-pre .1 .0) _ (c-loop .inv) (c-if1 .left) (c-if2 .left) _ (c-part-within .ensures) (c-enum-told4 .given .1) (c-past .ensures) (c-match-with-expr .ensures))
 
 r-enum-known-part-2 : (t : ℕ) → R.Need-enum-known-part-2 (r-calls t) (r-at t) rule.Post r-Inv r-μ
 r-enum-known-part-2 t c = search needs
@@ -1053,12 +1057,12 @@ r-match-with-nested-ruledef-requires t c κs =
     let c-if1 = c .before .before .before .before .before .before .before .if1 in
     let c-pre = c .before .before .before .before .before .before .before .before .before .before .before .before .before .before .pre in
     let c-if2 = c .before .before .before .before .before .before .if2 in
-    let c-part-at = c .before .before .before .before .before .part-at in
+    let c-part-within = c .before .before .before .before .before .part-within in
     let c-past2 = c .before .past2 in
     let c-part2 = c .before .before .before .part2 in
     let c-args = c .before .before .before .before .before .before .before .before .before .before .before .before .before .before .args in (
       omega (arith, c-loop .inv .falls, c-if1 .left, c-pre .0),
-      (step-ready (c-pre .1 .0) _ (c-loop .inv) (c-if1 .left) (c-if2 .left) _ (c-part-at .ensures) (c-past2 .ensures), (step-stands (c-pre .1 .0) _ (c-loop .inv) (c-if1 .left) (c-if2 .left) _ (c-part-at .ensures) (c-part2 .given .1) (c-past2 .ensures), (ruleset-few (c-pre .1 .0) (c-args .visits) (c-loop .inv) (c-if1 .left) (c-if2 .left) _ (c-part-at .ensures) (c-part2 .given .1), c-pre .1 .1 .1))),
+      (step-ready (c-pre .1 .0) _ (c-loop .inv) (c-if1 .left) (c-if2 .left) _ (c-part-within .ensures) (c-past2 .ensures), (step-stands (c-pre .1 .0) _ (c-loop .inv) (c-if1 .left) (c-if2 .left) _ (c-part-within .ensures) (c-part2 .given .1) (c-past2 .ensures), (ruleset-few (c-pre .1 .0) (c-args .visits) (c-loop .inv) (c-if1 .left) (c-if2 .left) _ (c-part-within .ensures) (c-part2 .given .1), c-pre .1 .1 .1))),
     )
 
 r-same-length-6 : (t : ℕ) → R.Need-same-length-6 (r-calls t) (r-at t) rule.Post r-Inv r-μ
@@ -1073,11 +1077,11 @@ r-returns-6 t c =
     let c-loop = c .before .before .before .before .before .before .before .before .before .before .before .loop in
     let c-if1 = c .before .before .before .before .before .before .before .before .before .before .if1 in
     let c-if2 = c .before .before .before .before .before .before .before .before .before .if2 in
-    let c-part-at = c .before .before .before .before .before .before .before .before .part-at in
+    let c-part-within = c .before .before .before .before .before .before .before .before .part-within in
     let c-part2 = c .before .before .before .before .before .before .part2 in
     let c-past2 = c .before .before .before .before .past2 in
     let c-match-with-nested-ruledef = c .before .before .match-with-nested-ruledef in
-    (along-nested (c-pre .1 .0) _ (c-loop .inv) (c-if1 .left) (c-if2 .left) _ (c-part-at .ensures) (c-part2 .given .1) (c-past2 .ensures) (c-match-with-nested-ruledef .ensures))
+    (along-nested (c-pre .1 .0) _ (c-loop .inv) (c-if1 .left) (c-if2 .left) _ (c-part-within .ensures) (c-part2 .given .1) (c-past2 .ensures) (c-match-with-nested-ruledef .ensures))
 
 pub +match-with-expr+match-with-nested-ruledef+match-with-rule-spec : {M : Type 1} → statement M
 +match-with-expr+match-with-nested-ruledef+match-with-rule-spec =
@@ -1087,4 +1091,4 @@ pub +match-with-expr+match-with-nested-ruledef+match-with-rule-spec : {M : Type 
     (λ t. N.spec (n-calls t) (n-at t) nested.Post n-Inv2 n-μ2 n-Inv n-μ n-Inv3 n-μ3
     (n-returns t) (n-next-useful-index-requires t) (n-find-limits-requires t) (n-mul-begin t) (n-shared-slice-read-begin t) (n-cast-begin t) (n-add-count t) (n-mul-count t) (n-shared-slice-read-count t) (n-cast-count t) (n-sub-count t) (n-loop-holds t) (n-mul-set-cursor-limit t) (n-element-copy-out-set-cursor-limit t) (n-set-cursor-limit-requires t) (n-add-pass t) (n-look-ahead-requires t) (n-loop2-holds t) (n-loop-less t) (n-loop-again t) (n-add-number t) (n-mul-failing-visits t) (n-element-copy-out-failing-visits t) (n-failing-visits-requires t) (n-same-length t) (n-returns-2 t) (n-add-rule t) (n-loop2-less t) (n-loop2-again t) (n-cast-parts-of t) (n-parts-of-requires t) (n-add-t68 t) (n-add-rule-2 t) (n-match-with-rule-requires t) (n-enum-known-got t) (n-loop2-less-2 t) (n-loop2-again-2 t) (n-enum-known-got-2 t) (n-same-length-2 t) (n-returns-3 t) (n-loop3-holds t) (n-add-m t) (n-add-inner-match t) (n-inner-match-requires t) (n-enum-told t) (n-loop3-less t) (n-loop3-again t) (n-enum-known-found t) (n-least-requires t) (n-add-sum t) (n-keep-requires t) (n-enum-told-2 t) (n-same-length-3 t) (n-returns-4 t) (n-enum-known-room t) (n-after-requires t) (n-set-cursor-index-requires t) (n-match-with-rule-requires-2 t) (n-enum-known-got-3 t) (n-loop3-less-2 t) (n-loop3-again-2 t) (n-enum-known-got-4 t) (n-same-length-4 t) (n-returns-5 t) (n-same-length-5 t) (n-returns-6 t))
     (λ t. R.spec (r-calls t) (r-at t) rule.Post r-Inv r-μ
-    (r-loop-holds t) (r-same-length t) (r-returns t) (r-sub-left t) (r-add-finish t) (r-finish-requires t) (r-same-length-2 t) (r-returns-2 t) (r-part-at-requires t) (r-add-at t) (r-enum-known-part t) (r-maybe-expect-char-requires t) (r-enum-known-step t) (r-add-passed t) (r-loop-less t) (r-loop-again t) (r-enum-told t) (r-same-length-3 t) (r-returns-3 t) (r-enum-told-2 t) (r-maybe-expect-whitespace-requires t) (r-enum-known-step-2 t) (r-loop-less-2 t) (r-loop-again-2 t) (r-enum-told-3 t) (r-same-length-4 t) (r-returns-4 t) (r-enum-told-4 t) (r-past-requires t) (r-add-match-with-expr t) (r-match-with-expr-requires t) (r-same-length-5 t) (r-returns-5 t) (r-enum-known-part-2 t) (r-past-requires-2 t) (r-add-match-with-nested-ruledef t) (r-match-with-nested-ruledef-requires t) (r-same-length-6 t) (r-returns-6 t))
+    (r-loop-holds t) (r-same-length t) (r-returns t) (r-sub-left t) (r-add-finish t) (r-finish-requires t) (r-same-length-2 t) (r-returns-2 t) (r-part-within-requires t) (r-add-at t) (r-enum-known-part t) (r-maybe-expect-char-requires t) (r-enum-known-step t) (r-add-passed t) (r-loop-less t) (r-loop-again t) (r-enum-told t) (r-same-length-3 t) (r-returns-3 t) (r-enum-told-2 t) (r-maybe-expect-whitespace-requires t) (r-enum-known-step-2 t) (r-loop-less-2 t) (r-loop-again-2 t) (r-enum-told-3 t) (r-same-length-4 t) (r-returns-4 t) (r-enum-told-4 t) (r-past-requires t) (r-add-match-with-expr t) (r-match-with-expr-requires t) (r-same-length-5 t) (r-returns-5 t) (r-enum-known-part-2 t) (r-past-requires-2 t) (r-add-match-with-nested-ruledef t) (r-match-with-nested-ruledef-requires t) (r-same-length-6 t) (r-returns-6 t))
