@@ -1,5 +1,6 @@
 -- The rules of a line's prefixes, the shortest first: each run is written after those before it, and there is room, since all
--- together are the lookup's rules, of which there are at most 512.
+-- together are the lookup's rules, of which there are at most 512. A longer prefix has a greater key, so its run begins at or
+-- after the end of the last.
 use mathlib.Core.Path.{_≡_, refl, sym, ap, _∙_}
 use mathlib.Core.List.{List, [], _++_, flatMap}
 use Prim.Native.Nat.{ℕ, zero, suc, _+_, _*_, _/_, _≤_, _<_}
@@ -11,6 +12,7 @@ use lib.Seq.{length-take-le, take-at}
 use Rattle.plain.specs.Buffers.{putAfter}
 use Rattle.plain.specs.Lists.{range}
 use Rattle.plain.proofs.Buffers.{put-end}
+use Rattle.plain.proofs.Every.{entry-every}
 use Rattle.plain.proofs.Lists.{flat-more, listed-at}
 use Rattle.defs.specs.Table.{ruleParts}
 use Rattle.ruledef_map.specs.RuledefMap.{topRules, withPrefix, foundIn, foundRules, linePrefix, heldPrefix}
@@ -19,17 +21,17 @@ use Rattle.readings.proofs.Records.{found-many}
 use Rattle.sorting.specs.Ascending.{inOrder}
 use Rattle.sorting.proofs.Insertions.{ascending-order}
 use Rattle.leads.specs.Leads.{keyOf}
-use Rattle.prefix_order.specs.PrefixOrder.{entries, rulesWith, FindAsked, RunAsked}
+use Rattle.prefix_order.specs.PrefixOrder.{entries, rulesWith, FindAsked, Passed, RunAsked, RunLeft}
 use Rattle.leads.proofs.Bytes.{every-take}
 use Rattle.prefix_order.proofs.Bytes.{line-bytes, line-short}
-use Rattle.leads.proofs.Keys.{isByte, small-at}
-use Rattle.prefix_order.proofs.Keys.{Keyed, keyed-turn, keyed-small}
+use Rattle.leads.proofs.Keys.{isByte, byte-some, small-at}
+use Rattle.prefix_order.proofs.Keys.{Keyed, keyed-none, keyed-small, keyed-turn, keyed-more}
 use Rattle.prefix_order.proofs.Entries.{entries-with}
 
 -- ---- the prefix that the code holds
 
 module _ {held : Prefix} (p : List ℕ) (is : held ≡ heldPrefix p) where
-  pub held-count : held .count ≡ length p
+  held-count : held .count ≡ length p
   unfolding heldPrefix
   held-count = ap (λ (x : Prefix). x .count) is
 
@@ -79,11 +81,27 @@ pub record Finding (t p : List ℕ) (size found : ℕ) (now : List ℕ) : Type 0
   pub within : size ≤ suc (length p)
   pub long : length now ≡ 512
   pub many : found ≡ length (below t p size)
-  pub written : take found now ≡ below t p size
+  pub is : take found now ≡ below t p size
 
 pub finding-none : (t p : List ℕ) {buffer : List ℕ} → length buffer ≡ 512 → Finding t p 0 0 buffer
 unfolding below range flatMap
-finding-none t p long = record { within = omega arith; long = long; many = refl; written = refl }
+finding-none t p long = record { within = omega arith; long = long; many = refl; is = refl }
+
+-- before a run is sought: those of the shorter prefixes are written, and it does not begin before a place
+pub record Seeking (t es p : List ℕ) (size key weight begin found : ℕ) (now : List ℕ) : Type 0 where
+  pub inside : size ≤ length p
+  pub written : Finding t p size found now
+  pub keyed : Keyed p size key weight
+  pub passed : Passed es (key * 512) begin
+
+-- and after
+pub record Sought (t es p : List ℕ) (size key weight end found : ℕ) (now : List ℕ) : Type 0 where
+  pub written : Finding t p (size + 1) found now
+  pub keyed : Keyed p size key weight
+  pub passed : Passed es ((key + 1) * 512) end
+
+passed-more : {es : List ℕ} {bound greater at : ℕ} → Passed es bound at → bound ≤ greater → Passed es greater at
+passed-more passed l = record { within = passed .within; below = λ k m. omega (arith, passed .below k m) }
 
 module _ {t order line buffer : List ℕ} {n : ℕ} (asked : FindAsked t order line buffer n) where
   p : List ℕ
@@ -100,68 +118,99 @@ module _ {t order line buffer : List ℕ} {n : ℕ} (asked : FindAsked t order l
       ap (rulesWith (keyOf (take size p))) (asked .ordered)
       ∙ entries-with t (asked .table) (take size p) (every-take isByte size p (line-bytes line (asked .good))) (omega (arith, length-take size p, line-short line))
 
-  -- the next byte's key
-  module _ {held : Prefix} {size key weight : ℕ} (is : held ≡ heldPrefix (linePrefix line)) (keyed : Keyed (linePrefix line) size key weight) (more : size < held .count) where
-    pub next-inside : size < length (linePrefix line)
-    next-inside = omega (arith, held-count (linePrefix line) is)
-
-    next-place : size < 4
-    next-place = omega (arith, next-inside, line-short line)
-
-    pub next-byte : getD (held .bytes) size 0 < 256
-    next-byte =
-        omega (arith, held-byte (linePrefix line) is size next-place, small-at (linePrefix line) (line-bytes line (asked .good)) size)
-
-    pub next-keyed : Keyed (linePrefix line) (size + 1) (key + getD (held .bytes) size 0 * weight) (weight / 256)
-    next-keyed = keyed-turn keyed next-place (held-byte (linePrefix line) is size next-place)
-
-    pub next-small : key + getD (held .bytes) size 0 * weight < 4294967296
-    next-small = keyed-small (line-bytes line (asked .good)) next-keyed
+  -- the first run is of the empty prefix
+  pub seeking-none : Seeking t (take n order) (linePrefix line) 0 0 16777216 0 0 buffer
+  seeking-none = record {
+    inside = omega arith;
+    written = finding-none t (linePrefix line) (asked .room);
+    keyed = keyed-none (linePrefix line);
+    passed = record { within = omega arith; below = λ k l. absurd (omega arith) };
+  }
 
   module _
-      {size found key weight : ℕ}
+      {size key weight begin found : ℕ}
       {now : List ℕ}
-      (before : Finding t (linePrefix line) size found now)
-      (keyed : Keyed (linePrefix line) size key weight)
-      (inside : size ≤ length (linePrefix line))
+      (before : Seeking t (take n order) (linePrefix line) size key weight begin found now)
     where
       this-run : rulesWith key (take n order) ≡ withPrefix (ruleParts t) (topRules t) (take size p)
       unfolding p
-      this-run = ap (λ (k : ℕ). rulesWith k (take n order)) (keyed .is) ∙ run-is size
+      this-run = ap (λ (k : ℕ). rulesWith k (take n order)) (before .keyed .is) ∙ run-is size
 
-      pub finding-asked : RunAsked (take n order) now key found
+      pub seeking-small : key < 4294967296
+      seeking-small = keyed-small (line-bytes line (asked .good)) (before .keyed)
+
+      pub seeking-asked : RunAsked (take n order) now key begin found
       unfolding entries p
-      finding-asked = record {
+      seeking-asked = record {
         ordered = ap inOrder (asked .ordered) ∙ ascending-order _;
-        small = keyed-small (line-bytes line (asked .good)) keyed;
+        small = seeking-small;
+        passed = before .passed;
         room =
-            omega (arith, before .many, ap length this-run, ap length (below-more t p size), length-append (below t p size) (withPrefix (ruleParts t) (topRules t) (take size p)), below-few t p (size + 1) (omega arith), few-found, before .long);
+            omega (arith, before .written .many, ap length this-run, ap length (below-more t p size), length-append (below t p size) (withPrefix (ruleParts t) (topRules t) (take size p)), below-few t p (size + 1) (omega (arith, before .inside)), few-found, before .written .long);
       }
 
-      pub finding-turn :
-          {found′ : ℕ} {now′ : List ℕ} → length now′ ≡ length now →
-          (now′, found′) ≡ putAfter found (rulesWith key (take n order)) now →
-          Finding t (linePrefix line) (size + 1) found′ now′
+      pub seeking-done :
+          {end found′ : ℕ} {now′ : List ℕ} → length now′ ≡ length now →
+          RunLeft (take n order) now key found end found′ now′ →
+          Sought t (take n order) (linePrefix line) size key weight end found′ now′
       unfolding p
-      finding-turn {found′} {now′} long′ e =
+      seeking-done long′ left =
           let next : below t p size ++ rulesWith key (take n order) ≡ below t p (size + 1) = ap (λ (ws : List ℕ). below t p size ++ ws) this-run ∙ sym (below-more t p size) in
           record {
-            within = omega arith;
-            long = long′ ∙ before .long;
-            many =
-                omega (arith, put-end found (rulesWith key (take n order)) now e, before .many, length-append (below t p size) (rulesWith key (take n order)), ap length next);
-            written =
-                put-taken found (rulesWith key (take n order)) now (omega (arith, before .many, below-few t p size (before .within), few-found, before .long)) e
-                ∙ ap (λ (ws : List ℕ). ws ++ rulesWith key (take n order)) (before .written)
-                ∙ next;
+            written = record {
+              within = omega (arith, before .inside);
+              long = long′ ∙ before .written .long;
+              many =
+                  omega (arith, put-end found (rulesWith key (take n order)) now (left .written), before .written .many, length-append (below t p size) (rulesWith key (take n order)), ap length next);
+              is =
+                  put-taken found (rulesWith key (take n order)) now (omega (arith, before .written .many, below-few t p size (before .written .within), few-found, before .written .long)) (left .written)
+                  ∙ ap (λ (ws : List ℕ). ws ++ rulesWith key (take n order)) (before .written .is)
+                  ∙ next;
+            };
+            keyed = before .keyed;
+            passed = left .passed;
           }
 
-  -- after the longest prefix
-  pub finding-all :
-      {size found : ℕ} {now : List ℕ} → Finding t (linePrefix line) size found now → length (linePrefix line) < size →
-      (take found now ≡ foundRules t (linePrefix line)) × ((found ≡ length (foundRules t (linePrefix line))) × (found ≤ 512))
-  unfolding p
-  finding-all {size} {found} before past =
-      let whole = below-all t p size (omega (arith, before .within)) in
-      let many : found ≡ length (foundRules t p) = before .many ∙ ap length whole in
-      (before .written ∙ whole, (many, omega (arith, many, few-found)))
+  module _
+      {held : Prefix}
+      {size key weight end found : ℕ}
+      {now : List ℕ}
+      (before : Sought t (take n order) (linePrefix line) size key weight end found now)
+      (is : held ≡ heldPrefix (linePrefix line))
+    where
+      module _ (more : size < held .count) where
+        next-inside : size < length (linePrefix line)
+        next-inside = omega (arith, held-count (linePrefix line) is)
+
+        pub next-place : size < 4
+        next-place = omega (arith, next-inside, line-short line)
+
+        here : getD (held .bytes) size 0 ≡ getD (linePrefix line) size 0
+        here = held-byte (linePrefix line) is size next-place
+
+        pub next-byte : getD (held .bytes) size 0 < 256
+        next-byte = omega (arith, here, small-at (linePrefix line) (line-bytes line (asked .good)) size)
+
+        next-some : 0 < getD (held .bytes) size 0
+        next-some =
+            omega (arith, here, byte-some (getD (linePrefix line) size 0) (entry-every isByte (linePrefix line) (line-bytes line (asked .good)) size next-inside))
+
+        -- the next run is of a greater key
+        pub sought-next :
+            Seeking t (take n order) (linePrefix line) (size + 1) (key + getD (held .bytes) size 0 * weight) (weight / 256) end found now
+        sought-next = record {
+          inside = omega (arith, next-inside);
+          written = before .written;
+          keyed = keyed-turn (before .keyed) next-place here;
+          passed = passed-more (before .passed) (omega (arith, keyed-more (before .keyed) next-place next-some));
+        }
+
+      -- after the longest prefix
+      pub sought-all :
+          held .count ≤ size →
+          (take found now ≡ foundRules t (linePrefix line)) × ((found ≡ length (foundRules t (linePrefix line))) × (found ≤ 512))
+      unfolding p
+      sought-all past =
+          let whole = below-all t p (size + 1) (omega (arith, before .written .within, held-count (linePrefix line) is)) in
+          let many : found ≡ length (foundRules t p) = before .written .many ∙ ap length whole in
+          (before .written .is ∙ whole, (many, omega (arith, many, few-found)))

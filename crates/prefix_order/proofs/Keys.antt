@@ -1,5 +1,5 @@
--- A prefix's key, byte by byte: the key of one byte more is the last one and that byte times what it weighs at its place. There
--- are four places, and each is computed.
+-- A prefix's key, byte by byte: the key of one byte more is the last one and that byte times what it weighs at its place, so it is
+-- greater, since no byte is 0. There are four places, and each is computed.
 use mathlib.Core.Path.{_≡_, refl}
 use mathlib.Core.Bool.{true}
 use mathlib.Core.List.{List}
@@ -35,6 +35,14 @@ key-next (suc (suc zero)) p l = omega (arith, key-within 2 p refl refl refl refl
 key-next (suc (suc (suc zero))) p l = omega (arith, key-within 3 p refl refl refl refl, key-within 4 p refl refl refl refl)
 key-next (suc (suc (suc (suc n)))) p l = absurd (omega arith)
 
+weighed-some : (size : ℕ) {byte : ℕ} → size < 4 → 0 < byte → 0 < byte * weightOf size
+unfolding weightOf
+weighed-some zero l some = omega arith
+weighed-some (suc zero) l some = omega arith
+weighed-some (suc (suc zero)) l some = omega arith
+weighed-some (suc (suc (suc zero))) l some = omega arith
+weighed-some (suc (suc (suc (suc n)))) l some = absurd (omega arith)
+
 key-small : (p : List ℕ) → every isByte p ≡ true → keyOf p < 4294967296
 unfolding keyOf
 key-small p bytes = omega (arith, small-at p bytes 0, small-at p bytes 1, small-at p bytes 2, small-at p bytes 3)
@@ -57,3 +65,7 @@ module _ {p : List ℕ} {size key weight : ℕ} where
     is = rw (before .is, before .weighs, read) (key-next size p more);
     weighs = rw (before .weighs) (weight-next size more);
   }
+
+  -- a byte that is not 0 makes it greater
+  pub keyed-more : {byte : ℕ} → Keyed p size key weight → size < 4 → 0 < byte → key < key + byte * weight
+  keyed-more before more some = rw (before .weighs) (omega (arith, weighed-some size more some))
