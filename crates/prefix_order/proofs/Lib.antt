@@ -1,5 +1,6 @@
 pub mod Runs
 pub mod Bytes
+pub mod Keys
 pub mod Entries
 pub mod Finding
 pub mod Order

@@ -17,7 +17,7 @@ use Rattle.plain.proofs.Buffers.{put-none, put-end, put-more}
 use Rattle.plain.proofs.Lists.{keepIf-append}
 use Rattle.sorting.specs.Ascending.{inOrder}
 use Rattle.sorting.proofs.Insertions.{order-at}
-use Rattle.prefix_order.specs.PrefixOrder.{rulesWith, FirstFrom, RunAsked}
+use Rattle.prefix_order.specs.PrefixOrder.{rulesWith, Passed, FirstFrom, RunAsked, RunLeft}
 
 -- ---- bisection
 
@@ -28,11 +28,11 @@ pub record Bracket (es : List ℕ) (bound low high : ℕ) : Type 0 where
   pub below : (k : ℕ) → k < low → getD es k 0 < bound
   pub from : (k : ℕ) → high ≤ k → k < length es → bound ≤ getD es k 0
 
-pub bracket-none : (es : List ℕ) (bound : ℕ) {count : ℕ} → length es ≡ count → Bracket es bound 0 count
-bracket-none es bound long = record {
-  ordered = omega arith;
+pub bracket-none : {es : List ℕ} {bound from count : ℕ} → length es ≡ count → Passed es bound from → Bracket es bound from count
+bracket-none long passed = record {
+  ordered = omega (arith, passed .within);
   within = omega arith;
-  below = λ k l. absurd (omega arith);
+  below = passed .below;
   from = λ k l m. absurd (omega arith);
 }
 
@@ -56,8 +56,7 @@ module _ {es : List ℕ} {bound low high : ℕ} (before : Bracket es bound low h
 
   pub bracket-met : high ≤ low → FirstFrom es bound low
   bracket-met met = record {
-    within = omega (arith, before .ordered, before .within);
-    below = before .below;
+    passed = record { within = omega (arith, before .ordered, before .within); below = before .below };
     from = λ k m n. before .from k (omega arith) n;
   }
 
@@ -100,9 +99,10 @@ module _ (key : ℕ) where
     with-part at =
         omega (arith, length-append (rulesWith key (take at es)) (rulesWith key (drop at es)), ap length (sym (with-append (take at es) (drop at es)) ∙ ap (rulesWith key) (take-append-drop at es)))
 
-  -- the entries before `at` are done, and from there on none is of a lesser key
+  -- the entries before `at` are done, of which none is of a greater key, and from there on none is of a lesser one
   pub record Running (es buffer : List ℕ) (from at found : ℕ) (now : List ℕ) : Type 0 where
     pub within : at ≤ length es
+    pub earlier : (k : ℕ) → k < at → getD es k 0 < (key + 1) * 512
     pub later : (k : ℕ) → at ≤ k → k < length es → key * 512 ≤ getD es k 0
     pub long : length now ≡ length buffer
     pub written : (now, found) ≡ putAfter from (rulesWith key (take at es)) buffer
@@ -110,17 +110,21 @@ module _ (key : ℕ) where
   module _ (es buffer : List ℕ) (from : ℕ) where
     pub running-none : {at : ℕ} → FirstFrom es (key * 512) at → Running es buffer from at from buffer
     running-none {at} first = record {
-      within = first .within;
+      within = first .passed .within;
+      earlier = λ k l. omega (arith, first .passed .below k l);
       later = first .from;
       long = refl;
       written =
           put-none from buffer
-          ∙ ap (λ (r : List ℕ). putAfter from r buffer) (sym (with-none (take at es) (λ k l is. omega (arith, first .below k (omega (arith, length-take at es)), getD-take at es k 0 (omega (arith, length-take at es))))));
+          ∙ ap (λ (r : List ℕ). putAfter from r buffer) (sym (with-none (take at es) (λ k l is. omega (arith, first .passed .below k (omega (arith, length-take at es)), getD-take at es k 0 (omega (arith, length-take at es))))));
     }
 
-    module _ {at found : ℕ} {now : List ℕ} (asked : RunAsked es buffer key from) (before : Running es buffer from at found now) where
+    module _ {begin at found : ℕ} {now : List ℕ} (asked : RunAsked es buffer key begin from) (before : Running es buffer from at found now) where
       found-is : found ≡ from + length (rulesWith key (take at es))
       found-is = put-end from (rulesWith key (take at es)) buffer (before .written)
+
+      running-passed : Passed es ((key + 1) * 512) at
+      running-passed = record { within = before .within; below = before .earlier }
 
       -- an entry of the key is written, for which there is room
       module _ {entry : ℕ} (more : at < length es) (read : entry ≡ getD es at 0) where
@@ -131,6 +135,7 @@ module _ (key : ℕ) where
         pub running-turn : entry / 512 ≡ key → Running es buffer from (at + 1) (found + 1) (set now found (entry % 512))
         running-turn is = record {
           within = omega arith;
+          earlier = λ k l. omega (arith, order-at es (asked .ordered) k at (omega arith) more);
           later = λ k l. before .later k (omega arith);
           long = simp length-set (before .long);
           written =
@@ -140,14 +145,17 @@ module _ (key : ℕ) where
         }
 
         -- one of another key ends the run
-        pub running-past : (entry / 512 ≡ key → ⊥) → (now, found) ≡ putAfter from (rulesWith key es) buffer
-        running-past other =
-            before .written
-            ∙ ap (λ (r : List ℕ). putAfter from r buffer)
-            (sym (append-nil (rulesWith key (take at es)))
-            ∙ ap (λ (r : List ℕ). rulesWith key (take at es) ++ r) (sym (with-none (drop at es) none-later))
-            ∙ sym (with-append (take at es) (drop at es))
-            ∙ ap (rulesWith key) (take-append-drop at es))
+        pub running-past : (entry / 512 ≡ key → ⊥) → RunLeft es buffer key from at found now
+        running-past other = record {
+          written =
+              before .written
+              ∙ ap (λ (r : List ℕ). putAfter from r buffer)
+              (sym (append-nil (rulesWith key (take at es)))
+              ∙ ap (λ (r : List ℕ). rulesWith key (take at es) ++ r) (sym (with-none (drop at es) none-later))
+              ∙ sym (with-append (take at es) (drop at es))
+              ∙ ap (rulesWith key) (take-append-drop at es));
+          passed = running-passed;
+        }
           where
             none-later : (k : ℕ) → k < length (drop at es) → getD (drop at es) k 0 / 512 ≡ key → ⊥
             none-later k l is =
@@ -155,5 +163,8 @@ module _ (key : ℕ) where
                 let high : entry / 512 < key → ⊥ = λ less. omega (arith, before .later at (omega arith) more) in
                 other (omega (arith, before .later at (omega arith) more, order-at es (asked .ordered) at (at + k) (omega arith) here, getD-drop at es k 0))
 
-      pub running-all : length es ≤ at → (now, found) ≡ putAfter from (rulesWith key es) buffer
-      running-all end = before .written ∙ ap (λ (l : List ℕ). putAfter from (rulesWith key l) buffer) (take-all at es end)
+      pub running-all : length es ≤ at → RunLeft es buffer key from at found now
+      running-all end = record {
+        written = before .written ∙ ap (λ (l : List ℕ). putAfter from (rulesWith key l) buffer) (take-all at es end);
+        passed = running-passed;
+      }

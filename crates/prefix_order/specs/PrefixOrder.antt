@@ -6,6 +6,7 @@ use mathlib.Core.Option.{none}
 use Prim.Native.Nat.{ℕ, _+_, _*_, _/_, _%_, _≤_, _<_}
 use lib.Dec.{eqb}
 use lib.ListN.{length, getD, take}
+use Rattle.plain.specs.Buffers.{putAfter}
 use Rattle.plain.specs.Lists.{keepIf}
 use Rattle.line.specs.Line.{faultAt}
 use Rattle.defs.specs.Table.{tableFits, ruleParts}
@@ -54,14 +55,24 @@ pub record FindAsked (t order line rules : List ℕ) (n : ℕ) : Type 0 where
   pub fits : n ≤ length order
   pub room : length rules ≡ 512
 
--- the place of the first number that is not below a bound, or the end
-pub record FirstFrom (es : List ℕ) (bound at : ℕ) : Type 0 where
+-- before a place all numbers are below a bound
+pub record Passed (es : List ℕ) (bound at : ℕ) : Type 0 where
   pub within : at ≤ length es
   pub below : (k : ℕ) → k < at → getD es k 0 < bound
+
+-- it is the place of the first number that is not below the bound, or the end
+pub record FirstFrom (es : List ℕ) (bound at : ℕ) : Type 0 where
+  pub passed : Passed es bound at
   pub from : (k : ℕ) → at ≤ k → k < length es → bound ≤ getD es k 0
 
--- what writing a run asks: ordered entries, and room for it
-pub record RunAsked (es rules : List ℕ) (key from : ℕ) : Type 0 where
+-- what writing a run asks: ordered entries, a place that it does not begin before, and room for it
+pub record RunAsked (es rules : List ℕ) (key begin from : ℕ) : Type 0 where
   pub ordered : inOrder es ≡ true
   pub small : key < 4294967296
+  pub passed : Passed es (key * 512) begin
   pub room : from + length (rulesWith key es) ≤ length rules
+
+-- what it leaves: the run's rules after those before, and a place before which all entries are of this key or a lesser one
+pub record RunLeft (es rules : List ℕ) (key from end found : ℕ) (now : List ℕ) : Type 0 where
+  pub written : (now, found) ≡ putAfter from (rulesWith key es) rules
+  pub passed : Passed es ((key + 1) * 512) end

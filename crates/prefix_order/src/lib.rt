@@ -3,23 +3,20 @@
 // `src/asm/defs/ruledef_map.rs`. Nothing is refused: table and line are accepted ones.
 use defs::ruledef;
 use leads;
-use ruledef_map::Prefix;
 ghost use mathlib.Core.Path.{_≡_};
 ghost use mathlib.Core.Bool.{true};
 ghost use mathlib.Core.List.{map};
-ghost use Prim.Native.Nat.{_≤_, _<_};
-ghost use lib.Dec.{ltb};
+ghost use Prim.Native.Nat.{_≤_};
 ghost use lib.ListN.{length, take};
-ghost use Rattle.plain.specs.Choice.{select};
-ghost use Rattle.plain.specs.Buffers.{putAfter};
 ghost use Rattle.ruledef_map.specs.RuledefMap.{linePrefix, foundRules};
 ghost use Rattle.sorting.specs.Ascending.{inOrder};
-ghost use Rattle.leads.specs.Leads.{keyOf};
-ghost use Rattle.prefix_order.specs.PrefixOrder.{entryOf, entries, rulesWith};
-ghost use Rattle.prefix_order.specs.PrefixOrder.{LayAsked, OrderAsked, FindAsked, FirstFrom, RunAsked};
+ghost use Rattle.prefix_order.specs.PrefixOrder.{entryOf, entries};
+ghost use Rattle.prefix_order.specs.PrefixOrder.{LayAsked, OrderAsked, FindAsked, Passed, FirstFrom, RunAsked, RunLeft};
 
-// What a key's byte weighs against the next.
+// What a key's byte weighs against the next, and what the first of its four weighs.
 const BASE: usize = 256;
+
+const FIRST_WEIGHT: usize = BASE * BASE * BASE;
 
 // An entry is a key times this, and a place.
 const PLACES: usize = ruledef::MOST_RULES;
@@ -57,36 +54,21 @@ pub fn order_rules(
     sorting::sort(&mut order[..count], spare);
 }
 
-// A byte of a prefix of this size, 0 past its end.
-fn byte_within(byte: u8, at: usize, size: usize) -> usize
-    ensures { λ r. ⌜ r ≡ select (ltb at size) byte 0 ⌝ }
-    ensures small { λ r. ⌜ r < 256 ⌝ }
-{
-    if at < size {
-        return byte as usize;
-    }
-    0
-}
-
-// The first bytes of a prefix, as a number.
-fn key_of(prefix: Prefix, size: usize) -> usize
-    ensures answers { λ r. ⌜ r ≡ keyOf (take size (prefix .bytes)) ⌝ }
-    ensures small { λ r. ⌜ r < 4294967296 ⌝ }
-{
-    let first = byte_within(prefix.bytes[0], 0, size);
-    let second = byte_within(prefix.bytes[1], 1, size);
-    let third = byte_within(prefix.bytes[2], 2, size);
-    let fourth = byte_within(prefix.bytes[3], 3, size);
-    ((first * BASE + second) * BASE + third) * BASE + fourth
-}
-
-// The place of the first entry that is not below a bound, or the end.
-fn first_from(order: &[usize], count: usize, bound: usize) -> usize
+// The place of the first entry that is not below a bound, or the end, at or after a place before which all are below it.
+// That place is looked at first, since it often is the one.
+fn first_from(order: &[usize], from: usize, count: usize, bound: usize) -> usize
     requires { ⌜ count ≤ length (now order) ⌝ }
     requires { ⌜ inOrder (take count (now order)) ≡ true ⌝ }
+    requires { ⌜ Passed (take count (now order)) bound from ⌝ }
     ensures { λ r. ⌜ FirstFrom (take count (now (order .entry))) bound r ⌝ }
 {
-    let mut low = 0;
+    if count <= from {
+        return from;
+    }
+    if bound <= order[from] {
+        return from;
+    }
+    let mut low = from + 1;
     let mut high = count;
     while low < high {
         let middle = low + (high - low) / 2;
@@ -99,28 +81,43 @@ fn first_from(order: &[usize], count: usize, bound: usize) -> usize
     low
 }
 
-// Writes the rules whose prefix has this key after those written before: they are a run of the order.
-fn put_run(order: &[usize], count: usize, key: usize, rules: &mut [u16], from: usize) -> usize
+// Where a run ends in the order, and where its rules end among those written.
+struct Run {
+    end: usize,
+    found: usize,
+}
+
+// Writes the rules whose prefix has this key after those written before: they are a run of the order, at or after a place
+// before which all are of lesser keys.
+fn put_run(
+    order: &[usize],
+    begin: usize,
+    count: usize,
+    key: usize,
+    rules: &mut [u16],
+    from: usize,
+) -> Run
     requires { ⌜ count ≤ length (now order) ⌝ }
-    requires { ⌜ RunAsked (take count (now order)) (now rules) key from ⌝ }
-    ensures { λ r. ⌜ (now (rules .exit), r) ≡ putAfter from (rulesWith key (take count (now (order .entry)))) (now (rules .entry)) ⌝ }
+    requires { ⌜ RunAsked (take count (now order)) (now rules) key begin from ⌝ }
+    ensures { λ r. ⌜ RunLeft (take count (now (order .entry))) (now (rules .entry)) key from (r .end) (r .found) (now (rules .exit)) ⌝ }
 {
-    let mut at = first_from(order, count, key * PLACES);
+    let mut end = first_from(order, begin, count, key * PLACES);
     let mut found = from;
-    while at < count {
-        let entry = order[at];
-        at += 1;
+    while end < count {
+        let entry = order[end];
         if entry / PLACES != key {
-            return found;
+            return Run { end, found };
         }
+        end += 1;
         rules[found] = (entry % PLACES) as u16;
         found += 1;
     }
-    found
+    Run { end, found }
 }
 
 // Writes the rules to try on a line: those of its prefix's beginnings, the shortest first, and within one length in table
-// order. The table is lent for the promise alone: its order says all that is needed.
+// order. A key goes along: one byte more adds that byte at its weight; and as no byte is 0 the keys ascend, so each run is
+// sought from the end of the last. The table is lent for the promise alone: its order says all that is needed.
 pub fn find_rules(
     table: &[u16],
     order: &[usize],
@@ -134,12 +131,15 @@ pub fn find_rules(
     ensures few { λ r. ⌜ r ≤ 512 ⌝ }
 {
     let prefix = ruledef_map::parse_prefix(line);
-    let mut found: usize = 0;
+    let mut run = put_run(order, 0, count, 0, rules, 0);
     let mut size: usize = 0;
-    while size <= prefix.count {
-        let key = key_of(prefix, size);
+    let mut key: usize = 0;
+    let mut weight = FIRST_WEIGHT;
+    while size < prefix.count {
+        key += prefix.bytes[size] as usize * weight;
+        weight = weight / BASE;
         size += 1;
-        found = put_run(order, count, key, rules, found);
+        run = put_run(order, run.end, count, key, rules, run.found);
     }
-    found
+    run.found
 }

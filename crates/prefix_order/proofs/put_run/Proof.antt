@@ -10,16 +10,16 @@ use Rattle.prefix_order.proofs.put_run.Statement.{statement}
 use Rattle.prefix_order.proofs.put_run.Tie as tie
 
 abbrev Inv-loop : tie.InvT-loop
-Inv-loop order count key rules₀ from at₀ found₀ rules at found = Running key (take count order) rules₀ from at found rules
+Inv-loop order begin count key rules₀ from end₀ found₀ rules end found = Running key (take count order) rules₀ from end found rules
 
 abbrev μ-loop : tie.MeasureT-loop
-μ-loop order count key rules₀ from at₀ found₀ rules at found = count - at
+μ-loop order begin count key rules₀ from end₀ found₀ rules end found = count - end
 
 mul-first-from : tie.Need-mul-first-from Inv-loop μ-loop
 mul-first-from c = omega (arith, c .before .before .pre .1 .small)
 
 first-from-requires : tie.Need-first-from-requires Inv-loop μ-loop
-first-from-requires c κs = (c .before .before .pre .0, c .before .before .pre .1 .ordered)
+first-from-requires c κs = (c .before .before .pre .0, (c .before .before .pre .1 .ordered, c .before .before .pre .1 .passed))
 
 loop-holds : tie.Need-loop-holds Inv-loop μ-loop
 loop-holds c = running-none _ _ _ _ (c .first-from .ensures)
@@ -30,32 +30,32 @@ mul-entry c = search needs
 shared-slice-read-entry : tie.Need-shared-slice-read-entry Inv-loop μ-loop
 shared-slice-read-entry c = search needs
 
-add-at : tie.Need-add-at Inv-loop μ-loop
-add-at c = search needs
-
 same-length : tie.Need-same-length Inv-loop μ-loop
 same-length c = c .before .before .before .loop .inv .long
 
 returns : tie.Need-returns Inv-loop μ-loop
-returns c = let long = length-take-le (c .before .before .before .before .before .before .before .args .count) (c .before .before .before .before .before .before .before .args .order .now) (c .before .before .before .before .before .before .before .pre .0) in running-past _ _ _ _ (c .before .before .before .before .before .before .before .pre .1) (c .before .before .before .loop .inv) (omega (arith, long)) (sym (getD-take (c .before .before .before .before .before .before .before .args .count) (c .before .before .before .before .before .before .before .args .order .now) (c .before .before .before .loop .at) 0 (c .before .before .loop-test .taken))) (c .if1 .taken)
+returns c = running-past _ _ _ _ (c .before .before .before .before .before .before .before .pre .1) (c .before .before .before .loop .inv) (omega (arith, length-take-le (c .before .before .before .before .before .before .before .args .count) (c .before .before .before .before .before .before .before .args .order .now) (c .before .before .before .before .before .before .before .pre .0))) (sym (getD-take (c .before .before .before .before .before .before .before .args .count) (c .before .before .before .before .before .before .before .args .order .now) (c .before .before .before .loop .end) 0 (c .before .before .loop-test .taken))) (c .if1 .taken)
+
+add-end : tie.Need-add-end Inv-loop μ-loop
+add-end c = search needs
 
 cast-rules : tie.Need-cast-rules Inv-loop μ-loop
 cast-rules c = omega arith
 
 mul-rules : tie.Need-mul-rules Inv-loop μ-loop
-mul-rules c = let long = length-take-le (c .before .before .before .before .before .before .before .args .count) (c .before .before .before .before .before .before .before .args .order .now) (c .before .before .before .before .before .before .before .pre .0) in omega (arith, running-room _ _ _ _ (c .before .before .before .before .before .before .before .pre .1) (c .before .before .before .loop .inv) (omega (arith, long)) (sym (getD-take (c .before .before .before .before .before .before .before .args .count) (c .before .before .before .before .before .before .before .args .order .now) (c .before .before .before .loop .at) 0 (c .before .before .loop-test .taken))) (c .if1 .left))
+mul-rules c = omega (arith, running-room _ _ _ _ (c .before .before .before .before .before .before .before .pre .1) (c .before .before .before .loop .inv) (omega (arith, length-take-le (c .before .before .before .before .before .before .before .args .count) (c .before .before .before .before .before .before .before .args .order .now) (c .before .before .before .before .before .before .before .pre .0))) (sym (getD-take (c .before .before .before .before .before .before .before .args .count) (c .before .before .before .before .before .before .before .args .order .now) (c .before .before .before .loop .end) 0 (c .before .before .loop-test .taken))) (c .if1 .left))
 
 slice-write-rules : tie.Need-slice-write-rules Inv-loop μ-loop
-slice-write-rules c = let long = length-take-le (c .before .before .before .before .before .before .before .args .count) (c .before .before .before .before .before .before .before .args .order .now) (c .before .before .before .before .before .before .before .pre .0) in running-room _ _ _ _ (c .before .before .before .before .before .before .before .pre .1) (c .before .before .before .loop .inv) (omega (arith, long)) (sym (getD-take (c .before .before .before .before .before .before .before .args .count) (c .before .before .before .before .before .before .before .args .order .now) (c .before .before .before .loop .at) 0 (c .before .before .loop-test .taken))) (c .if1 .left)
+slice-write-rules c = running-room _ _ _ _ (c .before .before .before .before .before .before .before .pre .1) (c .before .before .before .loop .inv) (omega (arith, length-take-le (c .before .before .before .before .before .before .before .args .count) (c .before .before .before .before .before .before .before .args .order .now) (c .before .before .before .before .before .before .before .pre .0))) (sym (getD-take (c .before .before .before .before .before .before .before .args .count) (c .before .before .before .before .before .before .before .args .order .now) (c .before .before .before .loop .end) 0 (c .before .before .loop-test .taken))) (c .if1 .left)
 
 add-found : tie.Need-add-found Inv-loop μ-loop
-add-found c = let long = length-take-le (c .before .before .before .before .before .before .before .args .count) (c .before .before .before .before .before .before .before .args .order .now) (c .before .before .before .before .before .before .before .pre .0) in omega (arith, running-room _ _ _ _ (c .before .before .before .before .before .before .before .pre .1) (c .before .before .before .loop .inv) (omega (arith, long)) (sym (getD-take (c .before .before .before .before .before .before .before .args .count) (c .before .before .before .before .before .before .before .args .order .now) (c .before .before .before .loop .at) 0 (c .before .before .loop-test .taken))) (c .if1 .left))
+add-found c = omega (arith, running-room _ _ _ _ (c .before .before .before .before .before .before .before .pre .1) (c .before .before .before .loop .inv) (omega (arith, length-take-le (c .before .before .before .before .before .before .before .args .count) (c .before .before .before .before .before .before .before .args .order .now) (c .before .before .before .before .before .before .before .pre .0))) (sym (getD-take (c .before .before .before .before .before .before .before .args .count) (c .before .before .before .before .before .before .before .args .order .now) (c .before .before .before .loop .end) 0 (c .before .before .loop-test .taken))) (c .if1 .left))
 
 loop-less : tie.Need-loop-less Inv-loop μ-loop
 loop-less c = search needs
 
 loop-again : tie.Need-loop-again Inv-loop μ-loop
-loop-again c = let long = length-take-le (c .before .before .before .before .before .before .before .args .count) (c .before .before .before .before .before .before .before .args .order .now) (c .before .before .before .before .before .before .before .pre .0) in running-turn _ _ _ _ (c .before .before .before .before .before .before .before .pre .1) (c .before .before .before .loop .inv) (omega (arith, long)) (sym (getD-take (c .before .before .before .before .before .before .before .args .count) (c .before .before .before .before .before .before .before .args .order .now) (c .before .before .before .loop .at) 0 (c .before .before .loop-test .taken))) (c .if1 .left)
+loop-again c = running-turn _ _ _ _ (c .before .before .before .before .before .before .before .pre .1) (c .before .before .before .loop .inv) (omega (arith, length-take-le (c .before .before .before .before .before .before .before .args .count) (c .before .before .before .before .before .before .before .args .order .now) (c .before .before .before .before .before .before .before .pre .0))) (sym (getD-take (c .before .before .before .before .before .before .before .args .count) (c .before .before .before .before .before .before .before .args .order .now) (c .before .before .before .loop .end) 0 (c .before .before .loop-test .taken))) (c .if1 .left)
 
 same-length-2 : tie.Need-same-length-2 Inv-loop μ-loop
 same-length-2 c = c .before .loop .inv .long
@@ -74,9 +74,9 @@ put-run-spec =
     loop-holds
     mul-entry
     shared-slice-read-entry
-    add-at
     same-length
     returns
+    add-end
     cast-rules
     mul-rules
     slice-write-rules
