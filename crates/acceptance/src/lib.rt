@@ -2,11 +2,11 @@
 // number 2. The Rust is handed rules that its own parser has made, so it has no such check. Any words are taken.
 use defs::ruledef;
 ghost use mathlib.Core.Path.{_≡_};
-ghost use mathlib.Core.Bool.{_&&_};
-ghost use Prim.Native.Nat.{_+_, _≤_};
+ghost use mathlib.Core.Bool.{true, false, _&&_};
+ghost use Prim.Native.Nat.{ℕ, _+_, _≤_, _<_};
 ghost use lib.Dec.{leb};
 ghost use lib.ListN.{length};
-ghost use Rattle.defs.specs.Table.{rulesetsIn, recordsIn, partsIn, partsFrom, parametersIn, isPart};
+ghost use Rattle.defs.specs.Table.{wordAt, rulesetsIn, recordsIn, partsIn, partsFrom, parametersIn, isPart};
 ghost use Rattle.defs.specs.Table.{inRange, flagsFit, rulesetsFit, rangesFit, countsFit, parametersFit, partsFit, tableFits};
 
 // The bytes that an exact part may be.
@@ -15,6 +15,9 @@ const FIRST_PRINTED: usize = 33;
 const LAST_PRINTED: usize = 126;
 
 const SEMICOLON: usize = 59;
+
+// How many words are tried at once, of a table that has as many parts.
+const WIDE: usize = 8;
 
 fn flags_fit(table: &[u16], sets: usize) -> bool
     requires { ⌜ sets ≡ rulesetsIn (now table) ⌝ }
@@ -142,7 +145,62 @@ pub fn is_part(word: usize, sets: usize) -> bool
     word - ruledef::NESTED < sets
 }
 
-// All P words are checked, spares included.
+// Whether a word is no part of a table of so many rulesets. It has no branch, so that many are tried at once.
+fn is_odd(word: u16, sets: u16) -> bool
+    requires { ⌜ sets ≤ 32 ⌝ }
+    ensures { λ r. ⌜ (r ≡ false → isPart sets word ≡ true) ⌝ }
+{
+    (word < FIRST_PRINTED as u16)
+        | (word == SEMICOLON as u16)
+        | ((LAST_PRINTED as u16) < word)
+            & (word != ruledef::WHITESPACE as u16)
+            & (word != ruledef::EXPRESSION as u16)
+            & ((word < ruledef::NESTED as u16) | (ruledef::NESTED as u16 + sets <= word))
+}
+
+// Whether one of the eight words from a place on is no part. The count is fixed and no word ends the loop, so that the compiler
+// tries them at once.
+fn eight_odd(table: &[u16], from: usize, sets: u16) -> bool
+    requires { ⌜ sets ≤ 32 ⌝ }
+    requires { ⌜ from + 8 ≤ length (now table) ⌝ }
+    ensures { λ r. ⌜ (r ≡ false → (k : ℕ) → k < 8 → isPart sets (wordAt (now (table .entry)) (from + k)) ≡ true) ⌝ }
+{
+    let mut odd = false;
+    let mut i: usize = 0;
+    while i < WIDE {
+        let at = from + i;
+        i += 1;
+        odd = odd | is_odd(table[at], sets);
+    }
+    odd
+}
+
+// Whether all P words are parts, tried eight at a time; false of fewer than eight. The last eight end with the table: they may
+// try some words again.
+fn eights_fit(table: &[u16], sets: usize, from: usize, parts: usize) -> bool
+    requires { ⌜ sets ≡ rulesetsIn (now table) ⌝ }
+    requires { ⌜ sets ≤ 32 ⌝ }
+    requires { ⌜ from ≡ partsFrom (now table) ⌝ }
+    requires { ⌜ parts ≡ partsIn (now table) ⌝ }
+    requires { ⌜ from + parts ≡ length (now table) ⌝ }
+    ensures { λ r. ⌜ (r ≡ true → partsFit (now (table .entry)) ≡ true) ⌝ }
+{
+    if parts < WIDE {
+        return false;
+    }
+    let most = sets as u16;
+    let last = table.len() - WIDE;
+    let mut odd = false;
+    let mut at = from;
+    while at < last {
+        let here = at;
+        at += WIDE;
+        odd = odd | eight_odd(table, here, most);
+    }
+    !(odd | eight_odd(table, last, most))
+}
+
+// All P words are checked, spares included: many at once, and one by one if that does not settle it.
 fn parts_fit(table: &[u16], sets: usize, from: usize, parts: usize) -> bool
     requires { ⌜ sets ≡ rulesetsIn (now table) ⌝ }
     requires { ⌜ sets ≤ 32 ⌝ }
@@ -151,6 +209,9 @@ fn parts_fit(table: &[u16], sets: usize, from: usize, parts: usize) -> bool
     requires { ⌜ from + parts ≡ length (now table) ⌝ }
     ensures { λ r. ⌜ r ≡ partsFit (now (table .entry)) ⌝ }
 {
+    if eights_fit(table, sets, from, parts) {
+        return true;
+    }
     let mut k = 0;
     while k < parts {
         if !is_part(ruledef::word_at(table, from + k), sets) {

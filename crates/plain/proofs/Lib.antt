@@ -10,3 +10,4 @@ pub mod Members
 pub mod Passed
 pub mod Kept
 pub mod Replaced
+pub mod Tried
