@@ -1,19 +1,17 @@
 -- Parts tried eight at once, with no branch: what is not odd is a part, and if nothing was odd in the runs that were tried, all
 -- words from the first part to the table's end are parts.
-use mathlib.Core.Path.{_≡_, refl, sym, ap, _∙_}
+use mathlib.Core.Path.{_≡_, sym, ap, _∙_}
 use mathlib.Core.Logic.{_⊎_, inl, inr}
-use mathlib.Core.Bool.{Bool, true, false, not, _&&_, _||_}
+use mathlib.Core.Bool.{true, false, not, _&&_, _||_}
 use mathlib.Core.List.{List}
 use Prim.Native.Nat.{ℕ, _+_, _-_, _≤_, _<_}
 use native.Mathlib.Decide.{decLt}
 use native.Mathlib.Omega.{arith}
 use lib.Dec.{eqb, leb, ltb}
 use lib.ListN.{length}
-use borrow.Author.Tests.{ltb-false, eqb-true, leb-false, lt-ltb, le-ltb}
-use Rattle.plain.specs.Below.{everyBelow}
+use borrow.Author.Tests.{ltb-false, eqb-true, leb-false, lt-ltb}
 use Rattle.plain.proofs.Below.{every-all}
 use Rattle.plain.proofs.Tests.{tested, or-false-left, or-false-right}
-use Rattle.plain.proofs.Tried.{NoneOdd}
 use Rattle.defs.specs.Table.{wordAt, rulesetsIn, partsIn, partsFrom, partWordAt, isPart, partsFit}
 use Rattle.defs.proofs.Fits.{part-printed, part-space, part-expr, part-ruleset}
 

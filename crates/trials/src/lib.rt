@@ -258,7 +258,8 @@ pub fn read_line(
     ensures answers { λ r. ⌜ says r (now (answer .exit)) ≡ listedCall (triedPairs (now (table .entry)) (now (rules .entry)) count) (now (table .entry)) (now (line .entry)) (now (sheet .entry)) budget base (now (answer .entry)) ⌝ }
 {
     let visits = budget as usize;
-    let useful = useful::useful_places(line);
+    let mut useful = extents::held_places();
+    useful::find_places(line, &mut useful);
     let walked = try_rules(
         table,
         line,

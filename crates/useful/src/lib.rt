@@ -8,19 +8,20 @@ ghost use mathlib.Core.Path.{_≡_};
 ghost use Prim.Native.Nat.{_≤_};
 ghost use lib.ListN.{length};
 ghost use Rattle.line.specs.Line.{GoodLine};
+ghost use Rattle.extents.specs.Held.{HeldPlaces};
 ghost use Rattle.syntax.specs.Walker.{held, useful, stepSays, expectChar, expectWhitespace};
 ghost use Rattle.useful.specs.Useful.{usefulPlaces, Lent};
 
 // As many as the longest line has, its end included.
 pub const PLACES: usize = 121;
 
-// The useful place of each place of the line, its end included; past that each is its own. Worked out from the line's end to its
-// beginning: a place that holds no whitespace is its own too.
-pub fn useful_places(line: &[u8]) -> [u8; PLACES]
+// Puts the useful place of each place of the line, its end included, where the places stand each as its own; past the line's end
+// each is its own. Worked out from the end to the beginning: a place that holds no whitespace is its own too.
+pub fn find_places(line: &[u8], places: &mut [u8; PLACES])
     requires { ⌜ GoodLine (now line) ⌝ }
-    ensures answers { λ r. ⌜ r ≡ usefulPlaces (now (line .entry)) ⌝ }
+    requires { ⌜ HeldPlaces (now places) ⌝ }
+    ensures answers { λ _. ⌜ now (places .exit) ≡ usefulPlaces (now (line .entry)) ⌝ }
 {
-    let mut places = extents::held_places();
     let mut at = line.len();
     while 0 < at {
         let after = at;
@@ -30,7 +31,6 @@ pub fn useful_places(line: &[u8]) -> [u8; PLACES]
             places[at] = places[after];
         }
     }
-    places
 }
 
 // The walker's useful place. The line's places know no limit: under one it is the lesser of the two.

@@ -38,10 +38,11 @@ loop-less c = search needs
 
 loop-again : tie.Need-loop-again Inv-loop μ-loop
 unfolding wordAt
-loop-again c =
-    (omega arith,
-    λ e j l h.
-    one-tried (IsPart (c .before .before .before .before .before .args .sets) (now (c .before .before .before .before .before .args .table))) _ (c .before .before .before .before .before .args .from + c .before .before .before .loop .i) (c .before .before .before .loop .inv .1) (c .is-odd .ensures) e j l (omega arith))
+loop-again c = (
+  omega arith,
+  λ e j l h.
+      one-tried (IsPart (c .before .before .before .before .before .args .sets) (now (c .before .before .before .before .before .args .table))) _ (c .before .before .before .before .before .args .from + c .before .before .before .loop .i) (c .before .before .before .loop .inv .1) (c .is-odd .ensures) e j l (omega arith),
+)
 
 returns : tie.Need-returns Inv-loop μ-loop
 returns c = λ e k h. c .before .loop .inv .1 e (c .before .before .before .args .from + k) (omega arith) (omega (arith, c .loop-test .left))
