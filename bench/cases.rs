@@ -12,13 +12,18 @@ pub struct Case {
     pub sheet: Vec<u8>,
 }
 
-/// A packed table. The first ruleset is the top one.
+/// A packed table from rules as text. The first ruleset is the top one.
 fn pack(rulesets: &[Vec<String>]) -> Vec<u16> {
+    let parts = |rules: &Vec<String>| rules.iter().map(|text| rule(text)).collect();
+    pack_parts(&rulesets.iter().map(parts).collect::<Vec<_>>())
+}
+
+/// The same from rules as part words, which can hold one of any ruleset: the text names that by one digit.
+pub fn pack_parts(rulesets: &[Vec<Vec<u16>>]) -> Vec<u16> {
     let mut records = Vec::new();
-    let mut parts = Vec::new();
+    let mut parts: Vec<u16> = Vec::new();
     for (set, rules) in rulesets.iter().enumerate() {
-        for text in rules {
-            let rule = rule(text);
+        for rule in rules {
             records.extend([set as u16, parts.len() as u16, rule.len() as u16]);
             parts.extend(rule);
         }

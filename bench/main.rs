@@ -8,6 +8,9 @@
 //!                               (programs.rs says what each is)
 //!     bench --sheets            prints the names of the lines whose sheets are filled
 //!     bench --sheet NAME SIDE   the same of one such line: `fill`, `checks` or `before` (sheets.rs says what each is)
+//!     bench --worst-cases       prints the worst calls' names, each after the sides that `--once` can run it on
+//!     bench --worst [SEED [SECONDS]]
+//!                               times those, and searches for worse ones, so many seconds in each family (worst.rs says how)
 mod cases;
 #[path = "../oracle/driver/notation.rs"]
 mod notation;
@@ -18,6 +21,7 @@ mod programs;
 #[allow(dead_code)]
 mod raw;
 mod sheets;
+mod worst;
 
 use cases::Case;
 use raw::Order;
@@ -111,7 +115,7 @@ pub fn lower<const N: usize>(least: &mut [f64; N], mut sides: [&mut dyn FnMut();
 
 /// The two sides must agree before they are timed.
 fn agree(case: &Case, lookup: bool, defs: &oracle::asm::ItemDefs) -> u32 {
-    let mut room = vec![0; ROOM];
+    let mut room = vec![0; worst::ROOM];
     let told = proved(case, lookup, BUDGET, &mut room);
     let words = words(&rust(defs, case, lookup));
     assert!(
@@ -217,6 +221,12 @@ fn time_all() {
     programs::print(&programs);
     println!("\nSheets, nanoseconds a line.\n");
     sheets::print(&sheets);
+    print_worst();
+}
+
+fn print_worst() {
+    println!("\nWorst calls, milliseconds; the least of three.\n");
+    worst::print_cases();
 }
 
 /// The name without its way, and whether that is lookup.
@@ -230,9 +240,11 @@ fn way(name: &str) -> (&str, bool) {
 /// Runs a case twice on one side; the second run is the one that is counted.
 fn once(name: &str, side: &str) {
     let (name, lookup) = way(name);
-    let case = cases::all().into_iter().find(|c| c.name == name).expect("no such case");
+    let mut cases = cases::all();
+    cases.extend(worst::cases().into_iter().map(|(case, _)| case));
+    let case = cases.into_iter().find(|c| c.name == name).expect("no such case");
     let defs = oracle::unpack_table(&case.table);
-    let mut room = vec![0; ROOM];
+    let mut room = vec![0; worst::ROOM];
     match side {
         "proved" => {
             proved(&case, lookup, BUDGET, &mut room);
@@ -284,9 +296,20 @@ fn main() {
             }
         }
         ["--sheet", name, side] => sheets::once(name, side),
+        ["--worst-cases"] => {
+            for (case, both) in worst::cases() {
+                println!("{} {}", if both { "both" } else { "proved" }, case.name);
+            }
+        }
+        ["--worst", ref rest @ ..] if rest.len() <= 2 => {
+            let number = |i: usize, else_| rest.get(i).map_or(else_, |text| text.parse().expect("a number"));
+            print_worst();
+            worst::search(number(0, 1), number(1, 30));
+        }
         _ => {
             eprintln!(
-                "usage: bench [--list | --once NAME SIDE | --programs | --program NAME SIDE | --sheets | --sheet NAME SIDE]"
+                "usage: bench [--list | --once NAME SIDE | --programs | --program NAME SIDE | --sheets | --sheet NAME SIDE | \
+                 --worst-cases | --worst [SEED [SECONDS]]]"
             );
             std::process::exit(2);
         }
