@@ -1,4 +1,5 @@
--- The line's check: the scan for the first bad byte, for the code, and that a line has no fault exactly if it is good.
+-- The line's check: bytes tried many at once and the scan for the first bad byte, for the code, and that a line has no fault
+-- exactly if it is good.
 use mathlib.Core.Path.{_≡_, refl, sym, ap, _∙_}
 use mathlib.Core.Logic.{_↔_}
 use mathlib.Core.Bool.{Bool, true, false, not, _&&_, _||_}
@@ -11,12 +12,13 @@ use native.Mathlib.Omega.{arith}
 use lib.Dec.{leb, ltb, eqb}
 use lib.ListN.{length, getD, drop}
 use lib.Seq.{drop-cons, drop-length}
-use borrow.Author.Tests.{lt-ltb, le-ltb, ltb-true, ltb-false, le-leb, lt-leb}
+use borrow.Author.Tests.{lt-ltb, le-ltb, ltb-true, ltb-false, le-leb, lt-leb, eq-eqb}
 use Rattle.plain.specs.Choice.{select}
+use Rattle.plain.proofs.Tests.{or-false-left, or-false-right}
 use Rattle.token.specs.Token.{isWhitespace}
-use Rattle.token.proofs.Bytes.{white-above}
+use Rattle.token.proofs.Bytes.{white-above, white-from}
 use Rattle.syntax.specs.Walker.{byteAt}
-use Rattle.line.specs.Line.{isAllowed, GoodLine, firstBad, endsOpen, orElse, faultAt, numbered, lineVerdict}
+use Rattle.line.specs.Line.{isAllowed, AllowedBetween, GoodLine, firstBad, endsOpen, orElse, faultAt, numbered, lineVerdict}
 
 -- ---- a byte, as the code tests it
 
@@ -48,11 +50,56 @@ module _ (b : ℕ) where
         | no d ↦ le-ltb b 33 (omega (arith, d)) ∙ printed (omega (arith, d))
       ]
 
+  -- a byte that is not odd is allowed: a space, or a printed byte and no semicolon
+  pub not-odd : ((ltb b 32 || ltb 126 b) || eqb b 59) ≡ false → isAllowed b ≡ true
+  not-odd even =
+      let near : (ltb b 32 || ltb 126 b) ≡ false = or-false-left _ _ even in
+      let from : 32 ≤ b = ltb-false b 32 (or-false-left _ _ near) in
+      let to : b ≤ 126 = ltb-false 126 b (or-false-right (ltb b 32) _ near) in
+      let other : eqb b 59 ≡ false = or-false-right (ltb b 32 || ltb 126 b) _ even in
+      elim (decLt b 33) [
+        | yes low ↦ sym (allowed-low low) ∙ sym (white-from 32 b from refl) ∙ eq-eqb b 32 (omega arith)
+        | no d ↦ sym (allowed-printed (omega (arith, d)) to) ∙ ap not other
+      ]
+
+-- ---- bytes tried many at once
+
+pub none-between : {line : List ℕ} {from to : ℕ} → to ≤ from → AllowedBetween line from to
+none-between empty = record { each = λ i from below. absurd (omega arith) }
+
+pub one-between : {line : List ℕ} {i to : ℕ} → to ≤ i + 1 → isAllowed (byteAt line i) ≡ true → AllowedBetween line i to
+one-between {line} {i} {to} next e = record { each = λ j from below. ap (λ (k : ℕ). isAllowed (byteAt line k)) (alone j from below) ∙ e }
+  where
+    alone : (j : ℕ) → i ≤ j → j < to → j ≡ i
+    alone j from below = omega arith
+
+pub fewer-between : {line : List ℕ} {a b c d : ℕ} → AllowedBetween line a b → a ≤ c → d ≤ b → AllowedBetween line c d
+fewer-between all p q = record { each = λ i from below. all .each i (omega arith) (omega arith) }
+
+-- what is allowed if nothing was odd so far, with what is allowed from there on if nothing is odd there
+pub both-between :
+    {line : List ℕ} {odd here : Bool} {a b c : ℕ} →
+    (odd ≡ false → AllowedBetween line a b) → (here ≡ false → AllowedBetween line b c) → (odd || here) ≡ false → AllowedBetween line a c
+both-between {line} {odd} {here} {a} {b} {c} before after even = record { each = each }
+  where
+    each : (i : ℕ) → a ≤ i → i < c → isAllowed (byteAt line i) ≡ true
+    each i from below =
+        elim (decLt i b) [
+          | yes h ↦ before (or-false-left odd here even) .each i from h
+          | no h ↦ after (or-false-right odd here even) .each i (omega (arith, h)) below
+        ]
+
 -- ---- the scan's steps
 
 -- the first bad byte from place i on
 abbrev pub badFrom : List ℕ → ℕ → Option ℕ
 badFrom line i = firstBad (drop i line) i
+
+none-bad : (bs : List ℕ) (i : ℕ) → ((k : ℕ) → k < length bs → isAllowed (getD bs k 0) ≡ true) → firstBad bs i ≡ none
+unfolding firstBad
+none-bad [] i h = refl
+none-bad (b ∷ bs) i h =
+    ap (λ (t : Bool). select t (firstBad bs (suc i)) (some i)) (h 0 (omega arith)) ∙ none-bad bs (suc i) (λ k l. h (suc k) (omega arith))
 
 module _ (line : List ℕ) where
   unrolled : (i : ℕ) → i < length line → badFrom line i ≡ select (isAllowed (byteAt line i)) (badFrom line (suc i)) (some i)
@@ -66,9 +113,16 @@ module _ (line : List ℕ) where
   bad-later i h e =
       ap (badFrom line) (add-one i) ∙ sym (unrolled i h ∙ ap (λ (b : Bool). select b (badFrom line (suc i)) (some i)) e)
 
-  pub bad-none : badFrom line (length line) ≡ none
+  -- past the last byte, with none bad
+  pub bad-none : (i : ℕ) → i ≤ length line → length line ≤ i → badFrom line i ≡ badFrom line 0 → badFrom line 0 ≡ none
   unfolding firstBad
-  bad-none = ap (λ (bs : List ℕ). firstBad bs (length line)) (drop-length line)
+  bad-none i within past passed =
+      let end : i ≡ length line = omega arith in
+      sym passed ∙ ap (badFrom line) end ∙ ap (λ (bs : List ℕ). firstBad bs (length line)) (drop-length line)
+
+  -- all bytes are allowed
+  pub bad-nowhere : AllowedBetween line 0 (length line) → badFrom line 0 ≡ none
+  bad-nowhere all = none-bad line 0 (λ k below. all .each k (omega arith) below)
 
 -- ---- number and place, as the code finds them
 
@@ -88,31 +142,22 @@ module _ (line : List ℕ) (short : length line ≤ 120) where
   pub verdict-byte : (i : ℕ) → badFrom line 0 ≡ some i → (3, i) ≡ lineVerdict line
   verdict-byte i p = settled (some i) (endsOpen line) p refl
 
-  -- past the last byte, with none bad
-  module _ (i : ℕ) (end : length line ≡ i) (passed : badFrom line i ≡ badFrom line 0) where
-    clean : badFrom line 0 ≡ none
-    clean = sym passed ∙ ap (badFrom line) (sym end) ∙ bad-none line
-
-    placed : (t : Bool) → endsOpen line ≡ t → numbered (select t (some (i - 1)) none) ≡ lineVerdict line
-    placed t e = ap (λ (n : ℕ). numbered (select t (some (n - 1)) none)) (sym end) ∙ settled none t clean e
-
-    ends : (t : Bool) → 0 < i → isWhitespace (byteAt line (i - 1)) ≡ t → endsOpen line ≡ t
+  -- with no bad byte
+  module _ (clean : badFrom line 0 ≡ none) where
+    ends : (t : Bool) → 0 < length line → isWhitespace (byteAt line (length line - 1)) ≡ t → endsOpen line ≡ t
     unfolding endsOpen
-    ends t h e =
-        ap (λ (s : Bool). s && isWhitespace (byteAt line (length line - 1))) (lt-ltb 0 (length line) (omega arith))
-        ∙ ap (λ (n : ℕ). isWhitespace (byteAt line (n - 1))) end
-        ∙ e
+    ends t h e = ap (λ (s : Bool). s && isWhitespace (byteAt line (length line - 1))) (lt-ltb 0 (length line) h) ∙ e
 
-    pub verdict-end : 0 < i → isWhitespace (byteAt line (i - 1)) ≡ true → (3, i - 1) ≡ lineVerdict line
-    verdict-end h e = placed true (ends true h e)
+    pub verdict-end : 0 < length line → isWhitespace (byteAt line (length line - 1)) ≡ true → (3, length line - 1) ≡ lineVerdict line
+    verdict-end h e = settled none true clean (ends true h e)
 
-    pub verdict-good : 0 < i → isWhitespace (byteAt line (i - 1)) ≡ false → (0, 0) ≡ lineVerdict line
-    verdict-good h e = placed false (ends false h e)
+    pub verdict-good : 0 < length line → isWhitespace (byteAt line (length line - 1)) ≡ false → (0, 0) ≡ lineVerdict line
+    verdict-good h e = settled none false clean (ends false h e)
 
-    pub verdict-empty : i ≤ 0 → (0, 0) ≡ lineVerdict line
+    pub verdict-empty : length line ≤ 0 → (0, 0) ≡ lineVerdict line
     unfolding endsOpen
     verdict-empty h =
-        placed false (ap (λ (t : Bool). t && isWhitespace (byteAt line (length line - 1))) (le-ltb 0 (length line) (omega arith)))
+        settled none false clean (ap (λ (t : Bool). t && isWhitespace (byteAt line (length line - 1))) (le-ltb 0 (length line) h))
 
 -- ---- no fault exactly if the line is good
 
@@ -126,12 +171,6 @@ all-allowed (b ∷ bs) i e k h = go (isAllowed b) refl e k h (all-allowed bs (su
     go true p q zero l ih = p
     go true p q (suc j) l ih = ih q j (omega arith)
     go false p q m l ih = absurd (Option·some-ne-none i q)
-
-none-bad : (bs : List ℕ) (i : ℕ) → ((k : ℕ) → k < length bs → isAllowed (getD bs k 0) ≡ true) → firstBad bs i ≡ none
-unfolding firstBad
-none-bad [] i h = refl
-none-bad (b ∷ bs) i h =
-    ap (λ (t : Bool). select t (firstBad bs (suc i)) (some i)) (h 0 (omega arith)) ∙ none-bad bs (suc i) (λ k l. h (suc k) (omega arith))
 
 pub good-is : (line : List ℕ) → (faultAt line ≡ none) ↔ GoodLine line
 unfolding faultAt endsOpen

@@ -17,6 +17,10 @@ use Rattle.line.specs.declared.LineCheck.the-variants.{Good, Bad}
 unfoldable pub isAllowed : ℕ → Bool
 isAllowed b = isWhitespace b || leb 33 b && leb b 126 && not (eqb b 59)
 
+-- the bytes from one place to before another are all allowed
+pub record AllowedBetween (line : List ℕ) (from to : ℕ) : Type 0 where
+  pub each : (i : ℕ) → from ≤ i → i < to → isAllowed (byteAt line i) ≡ true
+
 -- n bytes, 0 to 120, each one allowed; the last isn't whitespace
 pub record GoodLine (line : List ℕ) : Type 0 where
   pub short : length line ≤ 120
