@@ -10,6 +10,7 @@ use native.Mathlib.Omega.{arith}
 use lib.Dec.{eqb, leb, ltb}
 use lib.ListN.{length}
 use borrow.Author.Tests.{ltb-false, eqb-true, leb-false, lt-ltb}
+use Rattle.plain.specs.Between.{Between}
 use Rattle.plain.proofs.Below.{every-all}
 use Rattle.plain.proofs.Tests.{tested, or-false-left, or-false-right}
 use Rattle.defs.specs.Table.{wordAt, rulesetsIn, partsIn, partsFrom, partWordAt, isPart, partsFit}
@@ -43,16 +44,16 @@ module _ (s w : ℕ) where
 
 -- ---- all of them
 
--- what is known of a place
-abbrev pub IsPart : ℕ → List ℕ → ℕ → Type 0
-IsPart s t j = isPart s (wordAt t j) ≡ true
+-- the words from one place to before another are all parts
+abbrev pub PartsFrom : ℕ → List ℕ → ℕ → ℕ → Type 0
+PartsFrom s t from to = Between (λ (j : ℕ). isPart s (wordAt t j) ≡ true) from to
 
 pub parts-tried :
-    (t : List ℕ) (s from n : ℕ) → s ≡ rulesetsIn t → from ≡ partsFrom t → n ≡ partsIn t → from + n ≡ length t →
-    ((j : ℕ) → from ≤ j → j < length t → IsPart s t j) → partsFit t ≡ true
+    (t : List ℕ) (s from n : ℕ) → s ≡ rulesetsIn t → from ≡ partsFrom t → n ≡ partsIn t → from + n ≡ length t → PartsFrom s t from (length t) →
+    partsFit t ≡ true
 unfolding partsFit partWordAt
-parts-tried t s from n sets is parts long each =
+parts-tried t s from n sets is parts long all =
     every-all (partsIn t) _
     (λ k h.
     ap (λ (x : ℕ). isPart x (partWordAt t k)) (sym sets) ∙ ap (λ (x : ℕ). isPart s (wordAt t (x + k))) (sym is)
-    ∙ each (from + k) (omega arith) (omega (arith, long, parts)))
+    ∙ all .each (from + k) (omega arith) (omega (arith, long, parts)))

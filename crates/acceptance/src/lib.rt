@@ -3,9 +3,10 @@
 use defs::ruledef;
 ghost use mathlib.Core.Path.{_≡_};
 ghost use mathlib.Core.Bool.{true, false, _&&_};
-ghost use Prim.Native.Nat.{ℕ, _+_, _≤_, _<_};
+ghost use Prim.Native.Nat.{ℕ, _+_, _≤_};
 ghost use lib.Dec.{leb};
 ghost use lib.ListN.{length};
+ghost use Rattle.plain.specs.Between.{Between};
 ghost use Rattle.defs.specs.Table.{wordAt, rulesetsIn, recordsIn, partsIn, partsFrom, parametersIn, isPart};
 ghost use Rattle.defs.specs.Table.{inRange, flagsFit, rulesetsFit, rangesFit, countsFit, parametersFit, partsFit, tableFits};
 
@@ -163,7 +164,7 @@ fn is_odd(word: u16, sets: u16) -> bool
 fn eight_odd(table: &[u16], from: usize, sets: u16) -> bool
     requires { ⌜ sets ≤ 32 ⌝ }
     requires { ⌜ from + 8 ≤ length (now table) ⌝ }
-    ensures { λ r. ⌜ (r ≡ false → (k : ℕ) → k < 8 → isPart sets (wordAt (now (table .entry)) (from + k)) ≡ true) ⌝ }
+    ensures { λ r. ⌜ (r ≡ false → Between (λ (j : ℕ). isPart sets (wordAt (now (table .entry)) j) ≡ true) from (from + 8)) ⌝ }
 {
     let mut odd = false;
     let mut i: usize = 0;

@@ -62,33 +62,6 @@ module _ (b : ℕ) where
         | no d ↦ sym (allowed-printed (omega (arith, d)) to) ∙ ap not other
       ]
 
--- ---- bytes tried many at once
-
-pub none-between : {line : List ℕ} {from to : ℕ} → to ≤ from → AllowedBetween line from to
-none-between empty = record { each = λ i from below. absurd (omega arith) }
-
-pub one-between : {line : List ℕ} {i to : ℕ} → to ≤ i + 1 → isAllowed (byteAt line i) ≡ true → AllowedBetween line i to
-one-between {line} {i} {to} next e = record { each = λ j from below. ap (λ (k : ℕ). isAllowed (byteAt line k)) (alone j from below) ∙ e }
-  where
-    alone : (j : ℕ) → i ≤ j → j < to → j ≡ i
-    alone j from below = omega arith
-
-pub fewer-between : {line : List ℕ} {a b c d : ℕ} → AllowedBetween line a b → a ≤ c → d ≤ b → AllowedBetween line c d
-fewer-between all p q = record { each = λ i from below. all .each i (omega arith) (omega arith) }
-
--- what is allowed if nothing was odd so far, with what is allowed from there on if nothing is odd there
-pub both-between :
-    {line : List ℕ} {odd here : Bool} {a b c : ℕ} →
-    (odd ≡ false → AllowedBetween line a b) → (here ≡ false → AllowedBetween line b c) → (odd || here) ≡ false → AllowedBetween line a c
-both-between {line} {odd} {here} {a} {b} {c} before after even = record { each = each }
-  where
-    each : (i : ℕ) → a ≤ i → i < c → isAllowed (byteAt line i) ≡ true
-    each i from below =
-        elim (decLt i b) [
-          | yes h ↦ before (or-false-left odd here even) .each i from h
-          | no h ↦ after (or-false-right odd here even) .each i (omega (arith, h)) below
-        ]
-
 -- ---- the scan's steps
 
 -- the first bad byte from place i on

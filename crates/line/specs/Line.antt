@@ -8,6 +8,7 @@ use Prim.Native.Nat.{ℕ, suc, _-_, _≤_, _<_}
 use lib.Dec.{eqb, leb, ltb}
 use lib.ListN.{length}
 use Rattle.plain.specs.Choice.{select}
+use Rattle.plain.specs.Between.{Between}
 use Rattle.token.specs.Token.{isWhitespace}
 use Rattle.syntax.specs.Walker.{byteAt}
 use Rattle.line.specs.declared.LineCheck.{LineCheck}
@@ -18,8 +19,8 @@ unfoldable pub isAllowed : ℕ → Bool
 isAllowed b = isWhitespace b || leb 33 b && leb b 126 && not (eqb b 59)
 
 -- the bytes from one place to before another are all allowed
-pub record AllowedBetween (line : List ℕ) (from to : ℕ) : Type 0 where
-  pub each : (i : ℕ) → from ≤ i → i < to → isAllowed (byteAt line i) ≡ true
+abbrev pub AllowedBetween : List ℕ → ℕ → ℕ → Type 0
+AllowedBetween line from to = Between (λ (i : ℕ). isAllowed (byteAt line i) ≡ true) from to
 
 -- n bytes, 0 to 120, each one allowed; the last isn't whitespace
 pub record GoodLine (line : List ℕ) : Type 0 where

@@ -3,3 +3,4 @@ pub mod Below
 pub mod Lists
 pub mod Buffers
 pub mod Told
+pub mod Between

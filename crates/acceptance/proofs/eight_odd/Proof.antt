@@ -1,22 +1,23 @@
 -- The loop's invariant: if nothing was odd, every word passed is a part.
+use mathlib.Core.Path.{_≡_}
+use mathlib.Core.Bool.{false}
 use Prim.Native.Nat.{_+_, _-_, _≤_}
 use native.Mathlib.Omega.{arith}
 use borrow.Author.Needs.{needs}
-use denote.Ref.{now}
-use Rattle.plain.proofs.Tried.{NoneOdd, one-tried}
+use Rattle.plain.proofs.Tried.{none-between, one-between, fewer-between, both-between}
 use Rattle.defs.specs.Table.{wordAt}
-use Rattle.acceptance.proofs.Eights.{IsPart}
+use Rattle.acceptance.proofs.Eights.{PartsFrom}
 use Rattle.acceptance.proofs.eight_odd.Statement.{statement}
 use Rattle.acceptance.proofs.eight_odd.Tie as tie
 
 abbrev Inv-loop : tie.InvT-loop
-Inv-loop table from sets odd₀ i₀ odd i = (i ≤ 8) × NoneOdd (IsPart sets table) from (from + i) odd
+Inv-loop table from sets odd₀ i₀ odd i = (i ≤ 8) × (odd ≡ false → PartsFrom sets table from (from + i))
 
 abbrev μ-loop : tie.MeasureT-loop
 μ-loop table from sets odd₀ i₀ odd i = 8 - i
 
 loop-holds : tie.Need-loop-holds Inv-loop μ-loop
-loop-holds c = (omega arith, λ e j l h. absurd (omega arith))
+loop-holds c = (omega arith, λ even. none-between (omega arith))
 
 add-at : tie.Need-add-at Inv-loop μ-loop
 add-at c = search needs
@@ -38,14 +39,11 @@ loop-less c = search needs
 
 loop-again : tie.Need-loop-again Inv-loop μ-loop
 unfolding wordAt
-loop-again c = (
-  omega arith,
-  λ e j l h.
-      one-tried (IsPart (c .before .before .before .before .before .args .sets) (now (c .before .before .before .before .before .args .table))) _ (c .before .before .before .before .before .args .from + c .before .before .before .loop .i) (c .before .before .before .loop .inv .1) (c .is-odd .ensures) e j l (omega arith),
-)
+loop-again c =
+    (omega arith, both-between (c .before .before .before .loop .inv .1) (λ even. one-between (omega arith) (c .is-odd .ensures even)))
 
 returns : tie.Need-returns Inv-loop μ-loop
-returns c = λ e k h. c .before .loop .inv .1 e (c .before .before .before .args .from + k) (omega arith) (omega (arith, c .loop-test .left))
+returns c even = fewer-between (c .before .loop .inv .1 even) (omega arith) (omega (arith, c .loop-test .left))
 
 pub eight-odd-spec : {M : Type 1} → statement M
 eight-odd-spec =

@@ -8,7 +8,7 @@ use lib.ListN.{length}
 use borrow.Author.Tests.{not-true}
 use Rattle.plain.proofs.Tests.{not-both}
 use Rattle.line.specs.Line.{AllowedBetween}
-use Rattle.line.proofs.Lines.{none-between, fewer-between, both-between}
+use Rattle.plain.proofs.Tried.{none-between, fewer-between, both-between}
 use Rattle.line.proofs.is_plain.Statement.{statement}
 use Rattle.line.proofs.is_plain.Tie as tie
 

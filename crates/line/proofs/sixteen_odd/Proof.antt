@@ -5,7 +5,7 @@ use mathlib.Core.Bool.{false}
 use Prim.Native.Nat.{_+_, _-_, _≤_}
 use native.Mathlib.Omega.{arith}
 use Rattle.line.specs.Line.{AllowedBetween}
-use Rattle.line.proofs.Lines.{none-between, one-between, fewer-between, both-between}
+use Rattle.plain.proofs.Tried.{none-between, one-between, fewer-between, both-between}
 use Rattle.line.proofs.sixteen_odd.Statement.{statement}
 use Rattle.line.proofs.sixteen_odd.Tie as tie
 
