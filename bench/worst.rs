@@ -122,6 +122,15 @@ fn answer(genes: &Genes) -> Case {
     case("answer", &rulesets, b"a".to_vec(), true)
 }
 
+/// Three rulesets of a hundred rules each, on 119 spaces and a letter that no rule has: every visit stands before the spaces.
+fn spaces(_: &Genes) -> Case {
+    let rules = |part: u16| vec![vec![part]; 100];
+    let rulesets = vec![rules(NESTED + 1), rules(NESTED + 2), rules(b'b' as u16)];
+    let mut line = vec![b' '; LONGEST_LINE - 1];
+    line.push(b'a');
+    case("spaces", &rulesets, line, false)
+}
+
 /// A family: how many genes it reads, the budget that the search gives, and how a call is made. A visit of `cuts` costs the
 /// same in a fiftieth of the budget; the others have few visits.
 type Family = (usize, u32, Make);
@@ -159,9 +168,9 @@ fn time(case: &Case, budget: u32, calls: usize, room: &mut [u32]) -> (f64, raw::
 ///
 /// `cuts`: the lookahead character is `{`, and every `{` of the line stands within a parenthesis, so it is marked, is no cut and
 /// deepens a nesting, which costs the search most. `cuts, budget spent`: the line's last byte is the cut, so each ruleset is
-/// tried under it, too.
+/// tried under it, too. `spaces` was not found by the search: it was the worst before the useful places were worked out once.
 pub fn cases() -> Vec<(Case, bool)> {
-    let found: [(&str, Make, &[u8], bool); 4] = [
+    let found: [(&str, Make, &[u8], bool); 5] = [
         ("cuts", cuts, &[13, 62, 1, 0, 2, 2, 0, 2, 0, 0, 2], true),
         (
             "cuts, budget spent",
@@ -169,6 +178,7 @@ pub fn cases() -> Vec<(Case, bool)> {
             &[13, 62, 1, 0, 6, 6, 2, 6, 2, 0, 2, 3, 4],
             false,
         ),
+        ("spaces", spaces, &[], false),
         ("equals", equals, &[0, 1, 226, 0, 0, 7], true),
         ("answer", answer, &[3, 4, 4, 193, 1], true),
     ];
