@@ -2,7 +2,7 @@
 use mathlib.Core.Path.{_≡_, sym, ap, _∙_}
 use mathlib.Core.Logic.{_⊎_, inl, inr}
 use mathlib.Core.Bool.{Bool, true, false, _&&_, _||_, and-false}
-use Prim.Native.Nat.{ℕ, _+_, _-_, _/_, _≤_, _<_}
+use Prim.Native.Nat.{ℕ, _+_, _-_, _/_, _%_, _≤_, _<_}
 use native.Mathlib.Omega.{arith}
 use lib.Dec.{eqb}
 use borrow.Author.Tests.{eq-eqb, ne-eqb}
@@ -130,6 +130,13 @@ module _ (class x b : ℕ) (s : Search) (below : b < 256) (is : class ≡ marked
   unfolding isWanted
   turn-unmarked r h e = e (unmarked h .1) ∙ nests (and-false-right (mayCut s) (sameLetter b x) (unmarked h .0))
 
-  pub turn-nested : (r : Turn) → 2048 ≤ class → mayCut s ≡ false → (class - 2048 ≡ classOf b → r ≡ nested b s) → r ≡ turnOf x b s
+  -- no cut, since it may not be one or is not marked: the byte nests, marked or not
+  pub turn-nested : (r : Turn) → (class < 2048) ⊎ (mayCut s ≡ false) → (class % 2048 ≡ classOf b → r ≡ nested b s) → r ≡ turnOf x b s
   unfolding isWanted
-  turn-nested r h f e = e (omega (arith, marked h .1)) ∙ nests (and-false-left (mayCut s) (sameLetter b x) f)
+  turn-nested r (inl h) e =
+      e (omega (arith, unmarked h .1)) ∙ nests (and-false-right (mayCut s) (sameLetter b x) (unmarked h .0))
+  turn-nested r (inr f) e = go read
+    where
+      go : Read → r ≡ turnOf x b s
+      go (inl m) = e (omega (arith, m .1, class-small b below)) ∙ nests (and-false-left (mayCut s) (sameLetter b x) f)
+      go (inr m) = e (omega (arith, m .1, class-small b below)) ∙ nests (and-false-left (mayCut s) (sameLetter b x) f)

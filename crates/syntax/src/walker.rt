@@ -261,13 +261,13 @@ fn nest(s: Search, class: u16) -> Turn
     let parens = s.parens;
     let braces = s.braces;
     let kind = class / token::PARTNERS;
-    if kind < token::OPEN_PAREN {
-        return on(parens, braces);
-    }
-    if kind < token::CLOSE_PAREN {
-        return on(parens + 1, braces);
-    }
     if kind < token::OPEN_BRACE {
+        if kind < token::OPEN_PAREN {
+            return on(parens, braces);
+        }
+        if kind < token::CLOSE_PAREN {
+            return on(parens + 1, braces);
+        }
         if parens == 0 {
             return Turn::Stray;
         }
@@ -292,13 +292,12 @@ fn take_in(s: Search, class: u16) -> Turn
     if class / token::PARTNERS < token::OPEN_PAREN {
         return on(s.parens, s.braces);
     }
-    if class < MARK {
-        return nest(s, class);
-    }
     if may_cut(s) {
-        return Turn::Cut;
+        if MARK <= class {
+            return Turn::Cut;
+        }
     }
-    nest(s, class - MARK)
+    nest(s, class % MARK)
 }
 
 // The table is laid once for the search, not for each byte. Whitespace before the first other byte changes nothing, so it is
