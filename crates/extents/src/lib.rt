@@ -1,7 +1,7 @@
 // The extent sheet: for each start and limit in a line of n bytes, where the free parse of an expression and the greedy
 // decimal parse end. It is added by the port and carries over no Rust file: the Rust's expression parsers stand behind it.
 // `check_sheet` refuses a sheet of the wrong length or with a wrong entry (number 4); the readers ask for a sheet of the right
-// length, and for a start and a limit within the line.
+// length, a limit within the line, and a start that is not above it.
 ghost use mathlib.Core.Path.{_≡_};
 ghost use mathlib.Core.Bool.{true, not, _&&_, _||_};
 ghost use Prim.Native.Nat.{ℕ, _+_, _≤_};
@@ -109,8 +109,8 @@ fn held_between(c: u8, l: u8, e: u8) -> u8
     if l < from { l } else { from }
 }
 
-// Whether an entry is neither 255 nor from its start to its limit, if its start is not above its limit. Nothing goes on from a
-// branch but a number, so that many are tried at once.
+// Whether an entry is neither 255 nor from its start to its limit, if its start is not above its limit. It chooses among numbers
+// and never returns early, so that many are tried at once.
 fn is_odd(c: u8, l: u8, e: u8) -> bool
     ensures odd { λ r. ⌜ (c ≤ l → r ≡ not (entryFits c l e)) ⌝ }
 {

@@ -1,5 +1,5 @@
 -- The rules of no top ruleset, one ruleset after another: all rules of a ruleset are of its kind, so the first tells of them all.
-use mathlib.Core.Path.{_≡_, refl, sym, ap, subst, _∙_}
+use mathlib.Core.Path.{_≡_, sym, ap, subst, _∙_}
 use mathlib.Core.Logic.{_⊎_, inl, inr, ⊎-elim}
 use mathlib.Core.Bool.{true, false}
 use mathlib.Core.List.{List, []}
@@ -9,7 +9,7 @@ use native.Mathlib.Omega.{arith}
 use lib.ListN.{length, getD}
 use Rattle.plain.proofs.Tests.{not-both}
 use Rattle.plain.proofs.Lists.{listed-length, listed-at}
-use Rattle.defs.specs.Table.{recordsIn, rulesetsIn, rulesetAt}
+use Rattle.defs.specs.Table.{recordsIn, rulesetsIn}
 use Rattle.defs.specs.Ruledef.{isTop, isTopRule, startsOf, beginsAt}
 use Rattle.defs.proofs.Starts.{begins-first, begins-within}
 use Rattle.readings.proofs.Records.{begins-order, begins-last, set-of, few-sets, few-records}

@@ -1,11 +1,11 @@
 -- What the line has ahead, byte by byte: at each turn the useful place is the next of the bytes that count.
-use mathlib.Core.Path.{_≡_, refl, sym, ap, _∙_}
+use mathlib.Core.Path.{_≡_, _∙_}
 use mathlib.Core.List.{List}
-use Prim.Native.Nat.{ℕ, _+_, _*_, _-_, _≤_, _<_, min}
+use Prim.Native.Nat.{ℕ, _+_, _*_, _-_, _≤_, _<_}
 use native.Mathlib.Omega.{arith}
 use lib.ListN.{length, take}
 use Rattle.token.specs.Token.{lowered}
-use Rattle.syntax.specs.Walker.{byteAt, held, useful}
+use Rattle.syntax.specs.Walker.{byteAt, useful}
 use Rattle.readings.specs.Scene.{walkerAt}
 use Rattle.readings.specs.Fail.{ahead}
 use Rattle.readings.proofs.Lookups.{solidsFrom}

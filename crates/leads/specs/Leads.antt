@@ -1,4 +1,4 @@
--- Prefixes as numbers, so that a rule that fails in its leading exact parts is told by one comparison of words.
+-- Prefixes as numbers, so that a rule that fails in its leading exact parts is told by comparing two of them.
 use mathlib.Core.Path.{_≡_}
 use mathlib.Core.Bool.{Bool, true, false}
 use mathlib.Core.Logic.{_⊎_}

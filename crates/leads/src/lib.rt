@@ -1,5 +1,5 @@
-// Leads: a rule's leading exact parts as one number, prepared once for a call, so that a rule that fails in them is told by one
-// comparison of words with what the line has there. The Rust walks such a rule; its visits are counted here without a walk.
+// Leads: a rule's leading exact parts, up to four, as one number, prepared once for a call, so that a rule that fails in them is
+// told by that number and by what the line has there. The Rust walks such a rule; its visits are counted here without a walk.
 // Nothing is refused: the table is an accepted one.
 use defs::ruledef;
 use places;
@@ -90,7 +90,8 @@ fn line_key(line: &[u8], places: &[u8; useful::PLACES], walker: Walker) -> u32
     key as u32
 }
 
-// What the line has ahead, if that is wanted: it costs as much as walking a rule or two, so it pays where many rules are tried.
+// What the line has ahead, if that is wanted: it costs half of what walking a failing rule does, so it pays where several rules
+// are tried.
 pub fn look_ahead(line: &[u8], places: &[u8; useful::PLACES], walker: Walker, wanted: bool) -> Ahead
     requires { ⌜ Lent (now line) (now places) ⌝ }
     requires { ⌜ walker .cursor ≤ walker .limit ⌝ }

@@ -15,9 +15,7 @@ use Rattle.plain.specs.Choice.{select}
 use Rattle.plain.specs.Lists.{range, keepIf, every}
 use Rattle.plain.proofs.Passed.{map-more}
 use Rattle.plain.proofs.Members.{range-from, kept-mem}
-use Rattle.defs.specs.Table.{tableFits, recordsIn, ruleSpan, ruleParts, partsBetween}
-use Rattle.defs.proofs.Words.{parts-whole, parts-within}
-use Rattle.places.specs.Places.{PlacedAt}
+use Rattle.defs.specs.Table.{tableFits, recordsIn, ruleParts}
 use Rattle.ruledef_map.specs.RuledefMap.{rulePrefix, topRules, withPrefix, sameBytes}
 use Rattle.sorting.specs.Ascending.{ascending, inOrder}
 use Rattle.ruledef_map.proofs.Orders.{same-eq}

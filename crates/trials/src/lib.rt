@@ -237,7 +237,7 @@ fn stopped(why: Refusal, visits: u32) -> Answer
     }
 }
 
-// A line that its checks accepted, by the rules chosen for it.
+// A line that its checks accepted, by the rules chosen for it. The order says only whether a look ahead pays.
 pub fn read_line(
     table: &[u16],
     line: &[u8],

@@ -23,7 +23,7 @@ ghost use Rattle.pool.specs.Log.{decode, logOf};
 ghost use Rattle.pool.specs.Meaning.{Stored, entries, treeAt, gathered};
 ghost use Rattle.walk.specs.Met.{Ready, Prepared, Stands, toCome, fromExpr, fromNest, Ended, Left, finishPlan, rulePlan, exprPlan, nestedPlan, ran, pastAt, afterArg, made, InnerOf};
 
-// A ruleset of no more rules is tried without a look ahead, which costs nearly what a failing rule does.
+// A ruleset of no more rules is tried without a look ahead, which costs half of what walking a failing rule does.
 const FEW: usize = 1;
 
 // Where a walk stands: a rule, by its ruleset and its number there; the places of its part words that are still to come; how

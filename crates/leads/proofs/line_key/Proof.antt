@@ -1,6 +1,5 @@
 -- The loop's invariant: the bytes that count from the cursor on give the bytes that are left of the key.
 use borrow.Author.Needs.{needs}
-use mathlib.Core.Path.{refl}
 use native.Mathlib.Omega.{arith}
 use Rattle.readings.specs.Fail.{ahead}
 use Rattle.leads.specs.Leads.{keyOf}

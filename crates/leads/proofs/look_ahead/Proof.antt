@@ -1,6 +1,4 @@
 -- `leads::look_ahead` meets its contract.
-use mathlib.Core.Path.{_≡_, sym}
-use mathlib.Core.Bool.{true, false}
 use Rattle.leads.proofs.Told.{ahead-known, ahead-unknown}
 use Rattle.leads.proofs.look_ahead.Statement.{statement}
 use Rattle.leads.proofs.look_ahead.Tie as tie

@@ -1,5 +1,5 @@
 -- `trials::scans` meets its contract.
-use mathlib.Core.Path.{_≡_, refl, sym, ap}
+use mathlib.Core.Path.{sym, ap}
 use borrow.Author.Needs.{needs}
 use Rattle.trials.specs.Orders.{isScan}
 use Rattle.trials.proofs.scans.Statement.{statement}

@@ -387,7 +387,7 @@ n-look-ahead-requires t c κs =
     let c-loop-test = c .before .before .loop-test in
     let c-set-cursor-limit = c .set-cursor-limit in
     let (a, b) = inner-within (c-pre .1 .0) _ (c-pre .1 .1 .1 .0) (c-if1 .left) _ _ refl refl _ (c-find-limits .ensures) _ (c-loop-test .taken) _ refl _ (c-set-cursor-limit .ensures) in
-    (c-pre .1 .1 .1 .1 .places, (a, omega (arith, b, c-pre .1 .0 .limit)))
+    (c-pre .1 .1 .1 .1 .places, (omega (arith, a, c-pre .1 .0 .cursor), omega (arith, b, c-pre .1 .0 .limit)))
 
 n-loop2-holds : (t : ℕ) → N.Need-loop2-holds (n-calls t) (n-at t) nested.Post n-Inv2 n-μ2 n-Inv n-μ n-Inv3 n-μ3
 n-loop2-holds t c =

@@ -1,5 +1,4 @@
 -- `partOf` the word there, which is read as it stands.
-use mathlib.Core.Path.{refl, _∙_}
 use native.Mathlib.Omega.{arith}
 use borrow.Author.Needs.{needs}
 use Rattle.defs.specs.Table.{wordAt}
