@@ -1,5 +1,7 @@
 // The rule table's check, added by the port: whether words are a table as document 01 has it, sentence by sentence; if not,
 // number 2. The Rust is handed rules that its own parser has made, so it has no such check. Any words are taken.
+#![tactic(auto)]
+
 ghost use Rattle.std.specs.Prelude.{◌≡◌, true, false, ◌&&◌, ℕ, ◌+◌, ◌≤◌, leb, length};
 ghost use Rattle.plain.specs.Between.{Between};
 ghost use Rattle.defs.specs.Table.{word_at, rulesets_in, records_in, parts_in, parts_from, parameters_in, is_part};

@@ -2,6 +2,8 @@
 // `src/asm/matcher/mod.rs`, which counts each match and keeps those with the maximum; here the matches are the pool's
 // records of depth 0, which have their counts, and the answer is measured before anything is written. Nothing is read of the
 // table: it is lent for the contracts, which say what the counts are of.
+#![tactic(auto)]
+
 ghost use Rattle.std.specs.Prelude.{◌≡◌, [], map, ◌+◌, ◌≤◌, length};
 ghost use Rattle.readings.specs.Tree.{moved};
 ghost use Rattle.readings.specs.Answer.{answer_words};

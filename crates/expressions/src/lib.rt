@@ -2,6 +2,8 @@
 // the Rust's expression parsers are not in its published text. Starts go from the line's end to its beginning, and each is
 // judged by its byte and by what is known of later starts, so nesting costs no recursion and no word is gone over twice. It
 // refuses a bad line (3), then a sheet of the wrong length (18), and leaves the sheet unchanged in both.
+#![tactic(auto)]
+
 ghost use Rattle.std.specs.Prelude.{◌≡◌, true, ℕ, ◌+◌, ◌≤◌, ◌<◌, eqb, length, get_or};
 ghost use Rattle.plain.specs.Choice.{select};
 ghost use Rattle.syntax.specs.Walker.{byte_at};

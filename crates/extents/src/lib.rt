@@ -2,6 +2,8 @@
 // decimal parse end. It is added by the port and carries over no Rust file: the Rust's expression parsers stand behind it.
 // `check_sheet` refuses a sheet of the wrong length or with a wrong entry (number 4); the readers ask for a sheet of the right
 // length, a limit within the line, and a start that is not above it.
+#![tactic(auto)]
+
 ghost use Rattle.std.specs.Prelude.{◌≡◌, true, not, ◌&&◌, ◌||◌, ℕ, ◌+◌, ◌≤◌, ltb};
 ghost use Rattle.plain.specs.Below.{every_below};
 ghost use Rattle.extents.specs.Sheet.{sized, HasEntry, ReadAt, entry_at, entry_fits, fits_at, row_fits, half_fits, sheet_fits};

@@ -6,6 +6,8 @@
 // parts. With no TABLE it takes a small table of glyph rules that overlap, whose encodings it knows; so it goes on to choose
 // the smallest known encoding, on a guessing pass and on the last. The last line that it writes says how many lines stop the
 // build. It refuses a bad table and wrong use on standard error, and then reads no line.
+#![tactic(auto)]
+
 mod file;
 mod input;
 mod matching;

@@ -1,5 +1,7 @@
 // Runs the ground floor on document 01's bench cases 3, 4, 5 and 6, and on lines, tables and sheets that are refused, and
 // prints what it answers. The file stdout beside src/ has what document 01 says.
+#![tactic(auto)]
+
 use line::LineCheck;
 use syntax::walker::{Lookahead, Walker};
 

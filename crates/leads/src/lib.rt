@@ -1,6 +1,8 @@
 // Leads: a rule's leading exact parts, up to four, as one number, prepared once for a call, so that a rule that fails in them is
 // told by that number and by what the line has there. The Rust walks such a rule; its visits are counted here without a walk.
 // Nothing is refused: the table is an accepted one.
+#![tactic(auto)]
+
 ghost use Rattle.std.specs.Prelude.{◌≡◌, true, ◌≤◌, ◌<◌, ◌%◌, eqb, length};
 ghost use Rattle.plain.specs.Choice.{select};
 ghost use Rattle.defs.specs.Table.{table_fits, records_in, parts_between};

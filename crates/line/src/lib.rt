@@ -1,5 +1,7 @@
 // The line's check, added by the port: number 3 and its place. The Rust's matcher takes any text and has no such check; what
 // makes its lines is not in the published text.
+#![tactic(auto)]
+
 ghost use Rattle.std.specs.Prelude.{◌≡◌, true, false, ◌+◌, ◌≤◌, ◌<◌, length};
 ghost use Rattle.std.proofs.Math.Option.{none, some};
 ghost use Rattle.token.specs.Token.{is_whitespace};

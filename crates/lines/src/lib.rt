@@ -1,6 +1,8 @@
 // What is lent for a program's lines, judged before any line is read: how many lines there are, where they end in the text,
 // and whether sheets, budgets, bases and rows have the right lengths. Number 17 is for what does not fit. The Rust has no such
 // call.
+#![tactic(auto)]
+
 ghost use Rattle.std.specs.Prelude.{◌≡◌, ◌≤◌, length};
 ghost use Rattle.lines.specs.Lines.{sheet_size, ends_of, program_fits};
 

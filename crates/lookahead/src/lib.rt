@@ -3,6 +3,8 @@
 // `parse_with_lookahead`, `parse_with_and_without_lookahead`, whose parser becomes plain calls, and `remove_duplicates` as
 // `match_with_expr` uses it. Nothing is refused: any words, line, walker and places; for the ends the line comes with its own
 // useful places and a good sheet, and the walker stands within it.
+#![tactic(auto)]
+
 ghost use Rattle.std.specs.Prelude.{◌≡◌, true, List, [], ℕ, ◌≤◌, ◌<◌, length, take};
 ghost use Rattle.std.proofs.Math.Option.{some};
 ghost use Rattle.syntax.specs.Walker.{useful};

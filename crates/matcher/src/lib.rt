@@ -3,6 +3,8 @@
 // ones refused: table, line, sheet, budget (2 to 5), base (19); then the walk's budget, depth and pool (6, 7, 8); no match (1);
 // an answer longer than the buffer (9). A refusal leaves the buffer unchanged. The base is where the line begins in its file:
 // each start and end in the answer is base plus offset.
+#![tactic(auto)]
+
 ghost use Rattle.std.specs.Prelude.{◌≡◌, true, ◌≤◌, length, take};
 ghost use Rattle.defs.specs.Table.{table_fits};
 ghost use Rattle.readings.specs.Scene.{scene_of, based};

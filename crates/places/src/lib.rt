@@ -1,6 +1,8 @@
 // What a call prepares of its rules, so that a rule's record is read once for the call however often it is tried: its
 // ruleset, its number there, and where its part words stand. The Rust has rules as structures; these are the four fields
 // that beginning a rule needs. Nothing is refused: the table is an accepted one.
+#![tactic(auto)]
+
 ghost use Rattle.std.specs.Prelude.{◌≡◌, true, ◌<◌, length};
 ghost use Rattle.defs.specs.Table.{table_fits, records_in};
 ghost use Rattle.defs.specs.Ruledef.{starts_of};

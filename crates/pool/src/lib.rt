@@ -1,6 +1,8 @@
 // The pool: a record for each argument kept and each match completed, where the Rust clones vectors (`InstructionMatch`,
 // `InstructionArgument` of `src/asm/matcher/mod.rs`). A record is one word of a store that the caller lends; a `Pool` is how
 // many of them are taken. No other crate sees the words.
+#![tactic(auto)]
+
 ghost use Rattle.std.specs.Prelude.{◌≡◌, ◌+◌, ◌<◌, ◌≤◌, length, get_or};
 ghost use Rattle.readings.specs.Plan.{room};
 ghost use Rattle.pool.specs.Log.{code_of, kind_of, decode, ArgumentFits, MatchFits, TakenBy, Digits, depth_in, count_in};

@@ -1,6 +1,8 @@
 // The top rules in order of prefix: each rule is one number, its prefix's bytes and then its place in the table, so that
 // the rules of a line's prefix of each length are a run, found by bisection. It stands for the Rust's hash map of
 // `src/asm/defs/ruledef_map.rs`. Nothing is refused: table and line are accepted ones.
+#![tactic(auto)]
+
 ghost use Rattle.std.specs.Prelude.{◌≡◌, true, map, ◌≤◌, length, take};
 ghost use Rattle.ruledef_map.specs.RuledefMap.{line_prefix, found_rules};
 ghost use Rattle.sorting.specs.Ascending.{in_order};

@@ -1,5 +1,7 @@
 // The ground floor behind C functions, for `oracle/`: a walker's moves, its cut, and the rules that lookup tries, each to be
 // compared with the Rust's own. Each function is one call of `syntax` or `ruledef_map`; a walker comes as its cursor and limit.
+#![tactic(auto)]
+
 ghost use Rattle.std.specs.Prelude.{◌≡◌};
 ghost use Rattle.syntax.specs.Walker.{held, over, moved_to, limited, useful, expect_char, expect_whitespace};
 ghost use Rattle.syntax.specs.Cut.{cut};

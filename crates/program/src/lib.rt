@@ -2,6 +2,8 @@
 // read on the room that the lines before it left. The Rust reads lines one by one and has no such call. A bad table is refused
 // (2), then what is lent for the lines (17), before any line and with nothing written; a line's own refusal (1, 3 to 9, 19)
 // stands in its row, takes no words and stops nothing.
+#![tactic(auto)]
+
 ghost use Rattle.std.specs.Prelude.{◌≡◌, true, ◌≤◌, length};
 ghost use Rattle.std.proofs.Math.Option.{none};
 ghost use Rattle.defs.specs.Table.{table_fits};

@@ -9,6 +9,8 @@
 //
 //     NAME: number visits words place | buffer
 //     NAME: number count | list | buffer
+#![tactic(auto)]
+
 mod calls;
 mod input;
 mod output;

@@ -1,5 +1,7 @@
 // The prefix map, from `src/asm/defs/ruledef_map.rs`: which rules a line may match, by their leading bytes. The Rust's
 // hash map becomes a list in the order of its query: by prefix length, then by the table. Nothing is refused.
+#![tactic(auto)]
+
 ghost use Rattle.std.specs.Prelude.{◌≡◌, ℕ, ◌+◌, ◌≤◌, ◌<◌, eqb, length, get_or};
 ghost use Rattle.plain.specs.Below.{count_below};
 ghost use Rattle.plain.specs.Buffers.{put_after};

@@ -1,5 +1,7 @@
 // Standard input and output for the programs that replay recorded cases. Input is read a byte at a time: names, and numbers
 // in decimal. One too large for its bits counts as the largest. Output is text, and numbers in decimal.
+#![tactic(auto)]
+
 ghost use Rattle.std.specs.Prelude.{◌≤◌};
 ghost use Rattle.io.specs.Counts.{IsPrefixLen};
 

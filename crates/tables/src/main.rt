@@ -9,6 +9,8 @@
 // among words, and `;` among bytes:
 //
 //     NAME: number words place | room
+#![tactic(auto)]
+
 mod calls;
 mod input;
 mod output;

@@ -1,6 +1,8 @@
 // The C interface: `include/tholdrimash.h` declares these functions, and documents every number and field. Each is one call
 // of `matcher`, `resolver`, `listing`, `expressions` or `program`, with the answer's number and fields as a C struct; a slice
 // is a pointer and a length.
+#![tactic(auto)]
+
 ghost use Rattle.std.specs.Prelude.{◌≡◌, not, true, List, ℕ, ◌≤◌, eqb, length};
 ghost use Rattle.defs.specs.Table.{table_fits};
 ghost use Rattle.readings.specs.Call.{Accepted, scan_call, lookup_call};

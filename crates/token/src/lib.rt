@@ -1,6 +1,8 @@
 // Bytes by their class: one table gives whitespace, openers, closers and the lower-case partner.
 // From the Rust's `syntax::token`, whose `is_whitespace` is not in the published text: document 01 says what it is, and
 // order 4 added byte 13. Total: every byte has a class, and nothing is refused.
+#![tactic(auto)]
+
 ghost use Rattle.std.specs.Prelude.{◌≡◌};
 ghost use Rattle.plain.specs.Lists.{listed};
 ghost use Rattle.token.specs.Token.{class_of, is_whitespace, lowered, same_letter};

@@ -1,6 +1,8 @@
 // A match's tree, read from the pool's records: whether two are the same. The Rust asks nested vectors (`InstructionMatch`,
 // `InstructionArgument` of `src/asm/matcher/mod.rs`); here it is recursion over records, whose links are to earlier records, so
 // the record number falls.
+#![tactic(auto)]
+
 ghost use Rattle.std.specs.Prelude.{◌≡◌, ◌≤◌, ◌<◌};
 ghost use Rattle.readings.specs.Tree.{same_tree, same_args};
 ghost use Rattle.pool.specs.Meaning.{Stored, entries, tree_at};

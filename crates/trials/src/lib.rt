@@ -3,6 +3,8 @@
 // and base (3, 4, 5, 19); then the walk's budget, depth and pool (6, 7, 8); no match (1); an answer longer than the buffer
 // (9). A refusal leaves the buffer unchanged. The walk counts places from the line's start: the base comes in where the answer
 // is written.
+#![tactic(auto)]
+
 ghost use Rattle.std.specs.Prelude.{◌≡◌, [], map, ◌+◌, ◌-◌, ◌<◌};
 ghost use Rattle.readings.specs.Tree.{moved};
 ghost use Rattle.readings.specs.Scene.{scene_of};

@@ -1,6 +1,8 @@
 // The useful places of a line, worked out once for a call, and the moves of `src/syntax/walker.rs` that go by them.
 // The Rust walks over the whitespace at each move. Nothing is refused: what is lent is a line of at most 120 bytes, its own
 // places, and a walker that stands within it.
+#![tactic(auto)]
+
 ghost use Rattle.std.specs.Prelude.{◌≡◌, ◌≤◌, length};
 ghost use Rattle.line.specs.Line.{GoodLine};
 ghost use Rattle.extents.specs.Held.{HeldPlaces};

@@ -3,6 +3,8 @@
 // arrival at a place in a pattern, so the visits left fall; they, the depth and the pool's room refuse (6, 7, 8). The exact
 // count of a match goes with it, into each record: every function asks that the records taken so far are `Counted` (`Ready`,
 // `Ended`), and leaves them so (`Left`).
+#![tactic(auto)]
+
 ghost use Rattle.std.specs.Prelude.{◌≡◌, ℕ, ◌+◌, ◌<◌, ◌≤◌, length, get_or};
 ghost use Rattle.readings.specs.Walk.{any_same, depths, same_match};
 ghost use Rattle.pool.specs.Log.{decode, log_of};

@@ -2,6 +2,8 @@
 // the line; in the answer they stand as base plus offset, as the Rust's `span_offset` has them. In the Rust a match is nested
 // vectors (`InstructionMatch`, `InstructionArgument` of `src/asm/matcher/mod.rs`); the words are the port's. Recursion
 // over records, whose links are to earlier records, so the record number falls.
+#![tactic(auto)]
+
 ghost use Rattle.std.specs.Prelude.{◌≡◌, [], ◌∷◌, ◌+◌, ◌≤◌, ◌<◌, length};
 ghost use Rattle.plain.specs.Buffers.{put_after};
 ghost use Rattle.readings.specs.Tree.{moved, moved_args};

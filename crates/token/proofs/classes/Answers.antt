@@ -2,12 +2,8 @@
 use mathlib.Core.Path.{refl}
 use Rattle.plain.specs.Lists.{range, listed}
 use Rattle.token.specs.Token.{is_whitespace, lowered, class_kind, class_of}
-use Rattle.token.proofs.classes.Statement.{statement}
-use Rattle.token.proofs.classes.Tie as tie
+use Rattle.token.proofs.classes.Goals as goal
 
-returns : tie.Need-returns
+pub returns : goal.returns
 unfolding range listed class_of lowered class_kind is_whitespace
-returns c = refl
-
-pub classes-spec : {M : Type 1} → statement M
-classes-spec = tie.close (tie.spec returns)
+returns c = record { answers = refl }

@@ -1,0 +1,318 @@
+#!/usr/bin/env python3
+"""Turns the old proof files of a crate, Proof.antt over a Tie, to Invariants.antt and Answers.antt.
+
+usage: tools/answers.py CRATE NAMES OLD [OPEN]
+
+NAMES is the names.json that `rt check --generated DIR --old-names` writes for the crate, OLD a folder with the old files, as
+OLD/f/Proof.antt, and OPEN a log of a check: only the goals that it calls open get answers (without it, all). Written once, for
+the move to today's Rattle.
+"""
+
+import json
+import os
+import re
+import sys
+
+norm = lambda it: re.sub(r"[-_]", "", it).lower()
+KNOWN = ("overflow", "nonzero")
+
+
+def blocks_of(text):
+    """The top declarations of a file: (comment lines, lines)."""
+    out, comment = [], []
+    for l in text.split("\n"):
+        if not l.strip():
+            if comment and not out:
+                pass
+            continue
+        if l[0] not in " \t" and l.startswith("--"):
+            comment.append(l)
+            continue
+        if l[0] in " \t)" and out:
+            out[-1][1].append(l)
+        else:
+            out.append((comment, [l]))
+            comment = []
+    return out
+
+
+class Function:
+    def __init__(self, it, names):
+        self.it = it
+        self.steps = {norm(p[2][0]): p for p in it["places"] if p[2][0]}
+        self.clauses = {}
+        for p, c in zip(it["places"], it["clauses"]):
+            if p[2][0]:
+                self.clauses[norm(p[2][0])] = c
+        self.goals = {}
+        for old, new in it["needs"]:
+            self.goals[norm(old)] = new
+
+        self.asked = {norm(k): v for k, v in it["asked"].items()}
+
+    def fields(self, old):
+        n = norm(old)
+        if n in self.asked:
+            return self.asked[n]
+        for k in KNOWN:
+            if n.startswith(k) and n[len(k):] in self.asked:
+                return self.asked[n[len(k):]]
+        return None
+
+    def goal(self, old):
+        n = norm(old)
+        if n in self.goals:
+            return self.goals[n]
+        for k in KNOWN:
+            if n.startswith(k) and n[len(k):] in self.goals:
+                return self.goals[n[len(k):]]
+        return None
+
+
+def clause_path(rest, fields):
+    """`.1.1.0` over right-nested pairs, by the clauses' names."""
+    m = re.match(r"((?:\.[01])+)", rest)
+    if not fields:
+        return rest
+    if len(fields) == 1:
+        return "." + fields[0] + rest
+    if not m:
+        return rest
+    path = m.group(1).split(".")[1:]
+    k = 0
+    used = 0
+    for p in path:
+        if k == len(fields) - 1:
+            break
+        used += 1
+        if p == "0":
+            return "." + fields[k] + "".join("." + q for q in path[used:]) + rest[m.end():]
+        k += 1
+    if k == len(fields) - 1:
+        return "." + fields[k] + "".join("." + q for q in path[used:]) + rest[m.end():]
+    return rest
+
+
+CHAIN = re.compile(r"(?<![\w.'-])(c|w)((?:\.[^\s(){}.;,@\"«»\[\]\\]+)+)")
+
+
+def turn_chain(m, f, requires, said):
+    head, parts = m.group(1), m.group(2).split(".")[1:]
+    while parts and parts[0] == "before":
+        parts.pop(0)
+    if not parts:
+        return m.group()
+    step, rest = parts[0], "".join("." + p for p in parts[1:])
+    if step == "requires":
+        return head + ".requires" + clause_path(rest, requires)
+    if step in ("args", "ranges", "well_formed", "type_inv", "utf8"):
+        return head + "." + step + rest
+    p = f.steps.get(norm(step))
+    if p is None:
+        said.append(f"no step {step}")
+        return head + "." + step + rest
+    new = p[2][1]
+    c = f.clauses.get(norm(step))
+    if rest.startswith(".ensures") and c and c.get("fields"):
+        rest = ".ensures" + clause_path(rest[len(".ensures"):], c["fields"])
+    return head + "." + new + rest
+
+
+def parts_of(body):
+    """The parts of a tuple at the top, or None."""
+    b = body.strip()
+    if not b.startswith("(") or not b.endswith(")"):
+        return None
+    depth, parts, at = 0, [], 1
+    for i, ch in enumerate(b):
+        if ch in "({[":
+            depth += 1
+        elif ch in ")}]":
+            depth -= 1
+            if depth == 0 and i != len(b) - 1:
+                return None
+        elif ch == "," and depth == 1:
+            parts.append(b[at:i])
+            at = i + 1
+    parts.append(b[at:-1])
+    return [p.strip() for p in parts]
+
+
+def as_record(body, fields):
+    """An answer that was a tuple of right-nested pairs, as a record of clauses."""
+    if len(fields) == 1:
+        return f" record {{ {fields[0]} ={body if body.startswith((' ', chr(10))) else ' ' + body} }}"
+    m = re.match(r"(?s)\s*(let .*? in)\s+(\(.*\))\s*$", body)
+    before, inner = ("", body) if not m else (m.group(1) + " ", m.group(2))
+    given, rest = [], inner
+    while len(given) < len(fields) - 1:
+        parts = parts_of(rest)
+        if not parts or len(parts) < 2:
+            break
+        given.append(parts[0])
+        rest = parts[1] if len(parts) == 2 else "(" + ", ".join(parts[1:]) + ")"
+    if len(given) == len(fields) - 1:
+        given.append(rest.strip())
+        return " " + before + "record { " + "; ".join(f"{n} = {v}" for n, v in zip(fields, given)) + " }"
+    k = len(given)
+    left = fields[k:]
+    paths = []
+    path = ""
+    for i in range(len(left)):
+        paths.append(path + (".0" if i < len(left) - 1 else ""))
+        path += ".1"
+    return " " + before + f"let whole = {rest.strip()} in record {{ " + "; ".join([f"{n} = {v}" for n, v in zip(fields, given)] + [f"{n} = whole{q}" for n, q in zip(left, paths)]) + " }"
+
+
+def requires_of(crate, fn):
+    """The names of a function's requires, off the source."""
+    name = fn.split(".")[-1]
+    for folder, _, files in os.walk(os.path.join(crate, "src")):
+        for file in files:
+            text = open(os.path.join(folder, file), encoding="utf-8").read()
+            for m in re.finditer(r"\bfn " + re.escape(name) + r"\b", text):
+                end = text.find("\n{", m.end())
+                for e in (text.find("\n    {", m.end()),):
+                    if e != -1 and (end == -1 or e < end):
+                        end = e
+                head = text[m.end():end]
+                mod = file[:-3]
+                if mod not in ("lib", "main") and mod not in fn.split("."):
+                    continue
+                return re.findall(r"^\s*requires(?: (\w+))? \{", head, re.M)
+    return []
+
+
+def main():
+    crate, names_at, old_at = sys.argv[1:4]
+    open_log = open(sys.argv[4], encoding="utf-8").read() if len(sys.argv) > 4 else None
+    names = json.load(open(names_at, encoding="utf-8"))
+    name = os.path.basename(os.path.abspath(crate))
+    functions = {}
+    for module, it in names.items():
+        if ".Lts" in module:
+            functions[module.split(".", 1)[1].rsplit(".Lts", 1)[0]] = Function(it, names)
+    opened = None
+    if open_log is not None:
+        opened = {}
+        for m in re.finditer(r"^fn \S+: (?:no proof|not proved)[^\n]*?\./proofs/(\S+?)/(?:Answers|Proof)\.antt; `search` did not prove ([^\n;]*)", open_log, re.M):
+            opened.setdefault(m.group(1).replace("/", "."), set()).update(re.findall(r"`([^`]+)`", m.group(2)))
+        for m in re.finditer(r"^help: (?:write|add to|append to) \./proofs/(\S+?)/Answers\.antt[^\n]*\n((?:    [^\n]*\n|\s*\n)*)", open_log, re.M):
+            opened.setdefault(m.group(1).replace("/", "."), set()).update(re.findall(r"pub (\S+) : goal\.", m.group(2)))
+    for folder, _, files in sorted(os.walk(old_at)):
+        if "Proof.antt" not in files:
+            continue
+        fn = os.path.relpath(folder, old_at).replace("/", ".")
+        f = functions.get(fn)
+        if f is None:
+            print(f"{fn}: no names")
+            continue
+        said = []
+        text = open(os.path.join(folder, "Proof.antt"), encoding="utf-8").read()
+        requires = requires_of(crate, fn)
+        uses, invariants, answers, own, opening = [], [], [], [], []
+        pending = {}
+        blocks = blocks_of(text)
+        head_comment = []
+        for i, (comment, lines) in enumerate(blocks):
+            first = lines[0]
+            if first.startswith("use "):
+                if i == 0:
+                    head_comment = comment
+                if ".Tie as tie" in first or ".Statement.{statement}" in first:
+                    continue
+                uses.append(first)
+                continue
+            if first.startswith(("unfolding ", "open ")):
+                opening.append((comment, lines))
+                continue
+            m = re.match(r"(?:abbrev )?(?:pub )?(\S+) : tie\.(\S+)", first)
+            if m and m.group(2).startswith(("invariant-", "decreases-")):
+                pending[m.group(1)] = ("inv", m.group(2), comment)
+                continue
+            if m and m.group(2).startswith("Need-"):
+                pending[m.group(1)] = ("goal", m.group(2)[5:].split()[0], comment, opening)
+                opening = []
+                continue
+            word = first.split()[0]
+            if word in pending:
+                kind = pending[word]
+                body = "\n".join(lines)
+                lhs, _, rhs = body.partition("=")
+                params = lhs.split()[1:]
+                if kind[0] == "inv":
+                    invariants.append((kind[1], params, rhs, kind[2]))
+                else:
+                    un = kind[3] + opening
+                    opening = []
+                    answers.append((kind[1], params, rhs, kind[2], un))
+                continue
+            if re.match(r"pub \S*[-_]spec :", first) or re.match(r"\S*[-_]spec =", first):
+                continue
+            own.append((comment, opening, lines))
+            opening = []
+        target = os.path.join(crate, "proofs", fn.replace(".", "/"))
+        os.makedirs(target, exist_ok=True)
+        goal_module = f"Rattle.{name}.proofs.{fn}"
+        loops = {}
+        # invariants: the loop's name in the new names is read off the goals
+        inv_text = []
+        for old, params, rhs, comment in invariants:
+            new = None
+            kind = "invariant" if old.startswith("invariant-") else "decreases"
+            tail = old[len(kind) + 1:]
+            for L in f.it["loops"]:
+                pass
+            # the step of the loop, by its old name
+            p = f.steps.get(norm(tail))
+            new_loop = p[2][1] if p else tail
+            new = f"{kind}-{new_loop}"
+            body = rhs
+            for q in sorted(set(params), key=len, reverse=True):
+                if q in ("_", "l"):
+                    continue
+                base = q.rstrip("₀")
+                to = f"l.fn.{base}" if q.endswith("₀") else f"l.{base}"
+                body = re.sub(r"(?<![\w.'₀-])" + re.escape(q) + r"(?![\w'₀-])", to, body)
+            inv_text.append("\n".join(comment + [f"abbrev pub {new} : goal.{new}", f"{new} l ={body}"]))
+        if inv_text:
+            with open(os.path.join(target, "Invariants.antt"), "w", encoding="utf-8") as o:
+                o.write("\n".join(head_comment + uses + [f"use {goal_module}.Given as goal", ""]) + "\n" + "\n\n".join(inv_text) + "\n")
+        ans_text = []
+        for old, params, rhs, comment, un in answers:
+            new = f.goal(old)
+            if new is None:
+                said.append(f"no goal {old}")
+                if opened is None:
+                    continue
+                continue
+            if opened is not None and new not in opened.get(fn, ()):
+                continue
+            body = CHAIN.sub(lambda m: turn_chain(m, f, requires, said), rhs)
+            params = [q for q in params if q != "κs"]
+            fields = f.fields(old)
+            if fields:
+                body = as_record(body, fields)
+            heads = [l for cm, ls in un for l in cm + ls]
+            ans_text.append("\n".join(comment + [f"pub {new} : goal.{new}"] + heads + [f"{new} {' '.join(params)} ={body}"]))
+        if opened is not None:
+            missing = opened.get(fn, set()) - {f.goal(a[0]) for a in answers}
+            for g in sorted(missing):
+                ans_text.append(f"pub {g} : goal.{g}\n{g} c = ?")
+                said.append(f"no old answer for {g}")
+        own_text = ["\n".join(cm + ["\n".join(ls) for _, ls in op] + ls) for cm, op, ls in own]
+        if ans_text:
+            text = "\n".join(([] if inv_text else head_comment) + uses + [f"use {goal_module}.Goals as goal", ""]) + "\n"
+            joined = []
+            for i, t in enumerate(own_text):
+                joined.append(t)
+            body = "\n\n".join(joined + ans_text)
+            body = re.sub(r"borrow\.Author\.Rules", "borrow.Author.Rules", body)
+            with open(os.path.join(target, "Answers.antt"), "w", encoding="utf-8") as o:
+                o.write(text + body + "\n")
+        if not inv_text and not ans_text:
+            os.removedirs(target) if not os.listdir(target) else None
+        print(f"{fn}: {len(inv_text)} invariants, {len(ans_text)} answers of {len(answers)}" + ("; " + "; ".join(sorted(set(said))) if said else ""))
+
+
+main()
