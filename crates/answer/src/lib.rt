@@ -15,7 +15,7 @@ ghost use Rattle.answer.specs.Measured.{trees_in, trees_to, Bounded, FitFrom, me
 ghost use Rattle.plain.specs.Buffers.{at_start};
 
 // How many matches the answer has, their exact count, and how many words it takes.
-#[derive(Drop)]
+#[derive(Clone, Copy)]
 pub struct Measure {
     pub matches: usize,
     pub greatest: usize,

@@ -44,7 +44,7 @@ pub const EXPRESSION: usize = 257;
 pub const NESTED: usize = 512;
 
 // One place of a pattern.
-#[derive(Drop)]
+#[derive(Clone, Copy)]
 pub enum Part {
     Exact(u8),
     Whitespace,
@@ -53,7 +53,7 @@ pub enum Part {
 }
 
 // Where a rule's part words stand in the table.
-#[derive(Drop)]
+#[derive(Clone, Copy)]
 pub struct Parts {
     pub at: usize,
     pub end: usize,

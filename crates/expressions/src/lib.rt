@@ -28,7 +28,7 @@ const HALVES: usize = 2;
 const STARTS: usize = 121;
 
 // What filling a sheet comes to.
-#[derive(Drop)]
+#[derive(Clone, Copy)]
 pub enum Filling {
     // 0: how many bytes the sheet has.
     Filled { words: u32 },
@@ -39,14 +39,14 @@ pub enum Filling {
 }
 
 // How far the digits, and the letters and digits, that begin at a start reach.
-#[derive(Drop)]
+#[derive(Clone, Copy)]
 struct Reach {
     digits: usize,
     names: usize,
 }
 
 // A term's ends: low + 1 to top.
-#[derive(Drop)]
+#[derive(Clone, Copy)]
 enum TermFound {
     Ends { low: usize, top: usize },
     Nothing,

@@ -36,14 +36,14 @@ const SHORTEST_WIDE: usize = 15;
 const SHORTEST_NARROW: usize = 7;
 
 // The sheet's halves, in their order. Public, since the definitions and laws that other crates cite speak of it.
-#[derive(Drop)]
+#[derive(Clone, Copy)]
 pub enum Half {
     Free,
     Greedy,
 }
 
 // Where an expression ends, if there is one.
-#[derive(Drop)]
+#[derive(Clone, Copy)]
 pub enum Extent {
     Ends(usize),
     Nothing,

@@ -3,7 +3,7 @@
 use crate::show::complain;
 
 // What reading a file comes to.
-#[derive(Drop)]
+#[derive(Clone, Copy)]
 pub enum File {
     // All of it stands at the room's start.
     Whole { bytes: usize },

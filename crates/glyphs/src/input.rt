@@ -20,7 +20,7 @@ const TOO_FAR: u32 = 4_294_967_295;
 const TURNS: u64 = u64::MAX;
 
 // What a read of the input comes to.
-#[derive(Drop)]
+#[derive(Clone, Copy)]
 enum Chunk {
     Bytes(usize),
     End,
@@ -30,7 +30,7 @@ enum Chunk {
 // Where the program is in its input: how many bytes are behind it, and how many of them stand before the line. Of the line so
 // far: how many bytes are held; one more than the place of the last that is no whitespace; and whether such a one came after
 // those held. Of the lines before: how many were read, and how many of them stop the build.
-#[derive(Drop)]
+#[derive(Clone, Copy)]
 struct Progress {
     bytes: usize,
     begin: usize,

@@ -14,7 +14,7 @@ const BUDGET: u32 = 1_000_000;
 const MOST_SHEET: usize = 29_282;
 
 // What a line means for the build.
-#[derive(Drop)]
+#[derive(Clone, Copy)]
 pub enum Verdict {
     PassedOver,
     Read,

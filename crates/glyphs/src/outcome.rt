@@ -24,7 +24,7 @@ const LARGE: u32 = 100_000;
 const TEN: u32 = 10;
 
 // A number, or what stands for any other expression: how far from zero it is, and whether below.
-#[derive(Drop)]
+#[derive(Clone, Copy)]
 pub struct Value {
     pub number: bool,
     pub negative: bool,

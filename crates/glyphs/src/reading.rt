@@ -33,7 +33,7 @@ const DEPTHS: usize = 17;
 
 // A reading: its rule, and its outcome words on a guessing pass and on the last, so far, which mean something under the
 // example's own table alone. Then the next word, the depth of the match that it is in, and whether all is written.
-#[derive(Drop)]
+#[derive(Clone, Copy)]
 pub struct Reading {
     pub rule: usize,
     pub guessing: u32,

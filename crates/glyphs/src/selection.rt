@@ -9,7 +9,7 @@ use resolver::instruction::{Selection, resolve_encoding};
 const MOST: usize = 2;
 
 // How many readings there are, their rules, and their outcome words. If there is one, it stands for the other too.
-#[derive(Drop)]
+#[derive(Clone, Copy)]
 struct Outcomes {
     count: usize,
     rule: usize,

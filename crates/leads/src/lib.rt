@@ -58,7 +58,7 @@ pub fn prefix_key(table: &[u16], from: usize, to: usize) -> usize
 
 // What the line has ahead of a walker: its first four non-whitespace bytes from the cursor on and below the limit, as a number;
 // known only if it is asked for.
-#[derive(Drop)]
+#[derive(Clone, Copy)]
 pub struct Ahead {
     pub known: bool,
     pub key: u32,

@@ -22,7 +22,7 @@ const SEMICOLON: u8 = 59;
 const WIDE: usize = 16;
 
 // Whether a line is one, and if not, the place that number 3 returns.
-#[derive(Drop)]
+#[derive(Clone, Copy)]
 pub enum LineCheck {
     Good,
     Bad { place: usize },

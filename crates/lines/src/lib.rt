@@ -12,7 +12,7 @@ const MOST_LINES: usize = 256;
 const LONGEST: usize = 120;
 
 // What the ends say: the bytes of all sheets, or that the ends fall or pass the text.
-#[derive(Drop)]
+#[derive(Clone, Copy)]
 pub enum Ends {
     Good(usize),
     Bad,

@@ -14,7 +14,7 @@ use fields::spelling;
 const TOO_MANY: usize = ruledef::MOST_PARTS_A_RULE + 1;
 
 // What the lines so far have: S, R, P, and the last rule's ruleset.
-#[derive(Drop)]
+#[derive(Clone, Copy)]
 pub struct Sizes {
     pub sets: usize,
     pub rules: usize,
@@ -23,14 +23,14 @@ pub struct Sizes {
 }
 
 // The whole text: what there is, or its first bad line.
-#[derive(Drop)]
+#[derive(Clone, Copy)]
 pub enum Judged {
     Good(Sizes),
     BadAt(usize),
 }
 
 // One more line: what there is with it, or it is bad.
-#[derive(Drop)]
+#[derive(Clone, Copy)]
 pub enum Line {
     Fits(Sizes),
     Bad,

@@ -19,7 +19,7 @@ use fields::reading::{find, is_word, number, part_word};
 use fields::spelling;
 
 // What reading answers. `readSays` gives each case's number and fields.
-#[derive(Drop)]
+#[derive(Clone, Copy)]
 pub enum ReadAnswer {
     // 0: how many words were written at the room's start.
     Read { words: u32 },

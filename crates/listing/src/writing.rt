@@ -15,7 +15,7 @@ use fields::spelling;
 use fields::writing::{put, put_number, put_part, put_word};
 
 // What writing answers. `writeSays` gives each case's number and fields.
-#[derive(Drop)]
+#[derive(Clone, Copy)]
 pub enum WriteAnswer {
     // 0: how many bytes were written at the room's start.
     Written { bytes: u32 },

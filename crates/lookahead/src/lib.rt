@@ -26,21 +26,21 @@ use useful::PLACES;
 const WITH_CUT: usize = 2;
 
 // The lookahead character of a parameter.
-#[derive(Drop)]
+#[derive(Clone, Copy)]
 pub enum Character {
     Found(u8),
     Nothing,
 }
 
 // An expression's candidate ends, in their order; 0 past their count.
-#[derive(Drop)]
+#[derive(Clone, Copy)]
 pub struct Ends {
     pub count: usize,
     pub places: [usize; 3],
 }
 
 // The limits of a nested step, in their order; 0 past their count.
-#[derive(Drop)]
+#[derive(Clone, Copy)]
 pub struct Limits {
     pub count: usize,
     pub places: [usize; 2],

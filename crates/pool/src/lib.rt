@@ -9,20 +9,20 @@ ghost use Rattle.pool.specs.Log.{code_of, kind_of, decode, ArgumentFits, MatchFi
 ghost use Rattle.pool.specs.Meaning.{Stored, HeadAt, LastAt};
 
 // What an argument is: an expression, or nested with its match's record number.
-#[derive(Drop)]
+#[derive(Clone, Copy)]
 pub enum ArgumentKind {
     Expr,
     Nested(usize),
 }
 
-#[derive(Drop)]
+#[derive(Clone, Copy)]
 pub struct Argument {
     pub start: usize,
     pub end: usize,
     pub kind: ArgumentKind,
 }
 
-#[derive(Drop)]
+#[derive(Clone, Copy)]
 pub enum Record {
     // An argument kept. `prev` is the argument before it in its match: its record number and 1, or 0 if there is none;
     // `count` the exact count of its match so far.
@@ -44,20 +44,20 @@ pub enum Record {
 }
 
 // The records taken in a call: none is given back before it ends.
-#[derive(Drop)]
+#[derive(Clone, Copy)]
 pub struct Pool {
     pub used: usize,
 }
 
 // What asking for a record finds.
-#[derive(Drop)]
+#[derive(Clone, Copy)]
 pub enum Room {
     Taken(Pool),
     Full,
 }
 
 // A match as its ruleset, its rule's number there and its last argument, as in `prev`.
-#[derive(Drop)]
+#[derive(Clone, Copy)]
 pub struct Head {
     pub set: usize,
     pub rule: usize,
@@ -65,7 +65,7 @@ pub struct Head {
 }
 
 // Arguments up to a last one: none, or that and the one before it.
-#[derive(Drop)]
+#[derive(Clone, Copy)]
 pub enum Last {
     First,
     After(Argument, usize),

@@ -81,7 +81,7 @@ fn first_from(order: &[usize], from: usize, count: usize, bound: usize) -> usize
 }
 
 // Where a run ends in the order, and where its rules end among those written.
-#[derive(Drop)]
+#[derive(Clone, Copy)]
 struct Run {
     end: usize,
     found: usize,

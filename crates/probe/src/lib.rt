@@ -12,7 +12,7 @@ use syntax::walker::{Lookahead, Step, Walker};
 
 // A walker.
 #[repr(C)]
-#[derive(Drop)]
+#[derive(Clone, Copy)]
 pub struct ProbeWalker {
     pub cursor: usize,
     pub limit: usize,
@@ -20,7 +20,7 @@ pub struct ProbeWalker {
 
 // Whether something was found, 1 or 0, and a place: the walker's cursor, or the cut's place or 0.
 #[repr(C)]
-#[derive(Drop)]
+#[derive(Clone, Copy)]
 pub struct ProbePlace {
     pub found: usize,
     pub place: usize,

@@ -25,7 +25,7 @@ use pool::Pool;
 use trials::{Answer, Checked, Order};
 
 // What a program call returns. Rows and answers are written unless it is refused.
-#[derive(Drop)]
+#[derive(Clone, Copy)]
 pub enum ProgramAnswer {
     // 0: the answer words used in all.
     Done { words: u32 },
@@ -36,7 +36,7 @@ pub enum ProgramAnswer {
 }
 
 // A line's row: its number, and the answer words that it takes.
-#[derive(Drop)]
+#[derive(Clone, Copy)]
 pub struct Row {
     pub number: u32,
     pub words: usize,

@@ -30,7 +30,7 @@ const NO_INDEX: u16 = 65_535;
 const NO_END: u8 = 255;
 
 // What a matching call has beside a table, a line and a sheet.
-#[derive(Drop)]
+#[derive(Clone, Copy)]
 struct Asked {
     lookup: bool,
     budget: u32,

@@ -19,7 +19,7 @@ const MOST_WORDS: usize = 4096;
 const NO_SIZE: u32 = 65_536;
 
 // The answer. `selectionSays` gives each case's number and count: 0, 10, 11, 12, 13 and 14, in this order.
-#[derive(Drop)]
+#[derive(Clone, Copy)]
 pub enum Selection {
     Chosen { count: usize },
     BadList,
@@ -30,7 +30,7 @@ pub enum Selection {
 }
 
 // What the pass that judges counts.
-#[derive(Drop)]
+#[derive(Clone, Copy)]
 struct Tally {
     bad: usize,
     resolved: usize,
@@ -39,7 +39,7 @@ struct Tally {
 }
 
 // The least of the known sizes, and how many outcomes have it.
-#[derive(Drop)]
+#[derive(Clone, Copy)]
 struct Least {
     size: u32,
     count: usize,

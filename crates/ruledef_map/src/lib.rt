@@ -15,7 +15,7 @@ use defs::ruledef::Part;
 const MAX_PREFIX_SIZE: usize = 4;
 
 // The first bytes of a line or a rule, lowered; 0 past their count.
-#[derive(Drop)]
+#[derive(Clone, Copy)]
 pub struct Prefix {
     pub bytes: [u8; 4],
     pub count: usize,

@@ -11,7 +11,7 @@ ghost use Rattle.syntax.specs.Cut.{is_stray, taken_in, turn_of, fresh, cut_says,
 // What marks a class in the table that is laid for a search: more than any class is.
 const MARK: u16 = 2048;
 
-#[derive(Drop)]
+#[derive(Clone, Copy)]
 pub struct Walker {
     // The place of the next byte.
     pub cursor: usize,
@@ -20,21 +20,21 @@ pub struct Walker {
 }
 
 // What asking for a byte finds: the walker past it, or the walker where it stood.
-#[derive(Drop)]
+#[derive(Clone, Copy)]
 pub enum Step {
     Past(Walker),
     Stayed(Walker),
 }
 
 // Where the line is cut for a parameter that a lookahead character follows.
-#[derive(Drop)]
+#[derive(Clone, Copy)]
 pub enum Lookahead {
     At(usize),
     Nothing,
 }
 
 // What the search for the cut knows of the bytes that it has passed.
-#[derive(Drop)]
+#[derive(Clone, Copy)]
 pub struct Search {
     // Some byte was no whitespace.
     pub seen: bool,
@@ -43,7 +43,7 @@ pub struct Search {
 }
 
 // What one byte does to the search.
-#[derive(Drop)]
+#[derive(Clone, Copy)]
 pub enum Turn {
     Cut,
     // A closer whose own nesting is zero.

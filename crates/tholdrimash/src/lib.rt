@@ -27,7 +27,7 @@ use trials::Answer;
 
 // What matching, reading and writing tables, filling sheets, and programs return; unstated fields are 0.
 #[repr(C)]
-#[derive(Drop)]
+#[derive(Clone, Copy)]
 pub struct TholdrimashAnswer {
     pub number: u32,
     pub visits: u32,
@@ -37,7 +37,7 @@ pub struct TholdrimashAnswer {
 
 // What selection returns.
 #[repr(C)]
-#[derive(Drop)]
+#[derive(Clone, Copy)]
 pub struct TholdrimashSelection {
     pub number: u32,
     pub count: u32,

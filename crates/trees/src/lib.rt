@@ -12,7 +12,7 @@ ghost use Rattle.trees.specs.Same.{compared};
 use pool::{Argument, ArgumentKind, Last};
 
 // Whether two arguments are the same, as far as their own records say: nested ones are if their matches are.
-#[derive(Drop)]
+#[derive(Clone, Copy)]
 enum Compared {
     Different,
     Alike,

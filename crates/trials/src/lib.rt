@@ -32,7 +32,7 @@ const MOST_VISITS: u32 = 1_000_000;
 const MOST_BASE: u32 = 4_294_967_175;
 
 // What a call returns. The buffer's start holds the answer if it matched, and is unchanged otherwise.
-#[derive(Drop)]
+#[derive(Clone, Copy)]
 pub enum Answer {
     // 0: the readings with the greatest exact count.
     Matched { visits: u32, words: u32 },
@@ -55,14 +55,14 @@ pub enum Answer {
 }
 
 // What the checks find.
-#[derive(Drop)]
+#[derive(Clone, Copy)]
 pub enum Checked {
     Good,
     Bad(Answer),
 }
 
 // Which rules a call tries, and in what order: all top rules, or those that the line's prefixes lead to.
-#[derive(Drop)]
+#[derive(Clone, Copy)]
 pub enum Order {
     Scan,
     Lookup,

@@ -23,7 +23,7 @@ const FEW: usize = 1;
 
 // Where a walk stands: a rule, by its ruleset and its number there; the places of its part words that are still to come; how
 // deep it is nested; its last argument so far, as the pool counts arguments.
-#[derive(Drop)]
+#[derive(Clone, Copy)]
 pub struct Place {
     pub set: usize,
     pub rule: usize,
@@ -64,7 +64,7 @@ impl Place {
 }
 
 // Why a walk stops.
-#[derive(Drop)]
+#[derive(Clone, Copy)]
 pub enum Refusal {
     // The next visit would exceed the budget.
     Spent,
@@ -75,14 +75,14 @@ pub enum Refusal {
 }
 
 // What a walk leaves: visits left and the pool, or why it stopped and visits left.
-#[derive(Drop)]
+#[derive(Clone, Copy)]
 pub enum Walked {
     Done(usize, Pool),
     Stopped(Refusal, usize),
 }
 
 // An inner match to go on from: where it ended, and its exact count.
-#[derive(Drop)]
+#[derive(Clone, Copy)]
 pub enum Inner {
     Ends(usize, usize),
     Nothing,
