@@ -49,6 +49,22 @@ class Function:
             self.goals[norm(old)] = new
 
         self.asked = {norm(k): v for k, v in it["asked"].items()}
+        self.parts = {norm(p[2][0]): {} for p in it["places"] if p[2][0]}
+        for p in it["places"]:
+            if p[2][0]:
+                self.parts[norm(p[2][0])].update({a: b for a, b in p[4]})
+        self.loops = {norm(l[0][0]): l for l in it["loops"]}
+        self.typed = {}
+        for place in it["typed"]:
+            for var, step in place:
+                self.typed[norm(step)] = var
+        self.pre = (it["pre"] or {}).get("fields")
+        self.arms = {}
+        for arm in it["arms"]:
+            if arm:
+                for field, step, path in arm[2]:
+                    if path:
+                        self.arms[norm(step), tuple(path)] = (arm[0], field)
 
     def fields(self, old):
         n = norm(old)
@@ -107,11 +123,20 @@ def turn_chain(m, f, requires, said):
         return head + ".requires" + clause_path(rest, requires)
     if step in ("args", "ranges", "well_formed", "type_inv", "utf8"):
         return head + "." + step + rest
+    for k in range(len(parts), 1, -1):
+        hit = f.arms.get((norm(step), tuple(parts[1:k])))
+        if hit:
+            return head + "." + hit[0] + "." + hit[1] + "".join("." + q for q in parts[k:])
     p = f.steps.get(norm(step))
     if p is None:
         said.append(f"no step {step}")
         return head + "." + step + rest
     new = p[2][1]
+    if norm(step) in f.typed and parts[1:2] == ["given"]:
+        return head + ".type_inv." + f.typed[norm(step)] + "".join("." + q for q in parts[2:])
+    sub = f.parts.get(norm(step), {})
+    if parts[1:2] and parts[1] in sub:
+        rest = "." + sub[parts[1]] + "".join("." + q for q in parts[2:])
     c = f.clauses.get(norm(step))
     if rest.startswith(".ensures") and c and c.get("fields"):
         rest = ".ensures" + clause_path(rest[len(".ensures"):], c["fields"])
@@ -209,7 +234,7 @@ def main():
             continue
         said = []
         text = open(os.path.join(folder, "Proof.antt"), encoding="utf-8").read()
-        requires = requires_of(crate, fn)
+        requires = f.pre if f.pre is not None else requires_of(crate, fn)
         uses, invariants, answers, own, opening = [], [], [], [], []
         pending = {}
         blocks = blocks_of(text)
@@ -261,19 +286,18 @@ def main():
             new = None
             kind = "invariant" if old.startswith("invariant-") else "decreases"
             tail = old[len(kind) + 1:]
-            for L in f.it["loops"]:
-                pass
-            # the step of the loop, by its old name
-            p = f.steps.get(norm(tail))
-            new_loop = p[2][1] if p else tail
+            loop = f.loops.get(norm(tail))
+            new_loop = loop[0][1] if loop else tail
             new = f"{kind}-{new_loop}"
             body = rhs
-            for q in sorted(set(params), key=len, reverse=True):
-                if q in ("_", "l"):
-                    continue
-                base = q.rstrip("₀")
-                to = f"l.fn.{base}" if q.endswith("₀") else f"l.{base}"
-                body = re.sub(r"(?<![\w.'₀-])" + re.escape(q) + r"(?![\w'₀-])", to, body)
+            live = [q for q in set(params) if q != "_"]
+            if live:
+                each = "|".join(re.escape(q) for q in sorted(live, key=len, reverse=True))
+                body = re.sub(
+                    r"(?<![\w.'₀-])(" + each + r")(?![\w'₀-])",
+                    lambda m: "l.fn." + m.group(1).rstrip("₀") if m.group(1).endswith("₀") else "l." + m.group(1),
+                    body,
+                )
             inv_text.append("\n".join(comment + [f"abbrev pub {new} : goal.{new}", f"{new} l ={body}"]))
         if inv_text:
             with open(os.path.join(target, "Invariants.antt"), "w", encoding="utf-8") as o:

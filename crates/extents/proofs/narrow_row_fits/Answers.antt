@@ -1,0 +1,16 @@
+use mathlib.Core.Path.{◌≡◌}
+use mathlib.Core.Bool.{not}
+use Prim.Native.Nat.{◌+◌, ◌-◌, ◌≤◌}
+use native.Mathlib.Omega.{arith}
+use Rattle.plain.specs.Below.{every_below}
+use Rattle.extents.proofs.Chunks.{both_at, none_both, odd-chunk, row-covered}
+use Rattle.extents.proofs.narrow_row_fits.Goals as goal
+
+pub loop-l-init : goal.loop-l-init
+loop-l-init c = (omega (arith, c.requires.start), none_both _ _ _)
+
+pub loop-l-preserved : goal.loop-l-preserved
+loop-l-preserved c = (omega (arith, c.requires.room, c.loop-l-test.true), odd-chunk (both_at c.args.sheet.now c.args.n c.args.c) 8 c.loop-l.l c.loop-l.l (omega arith) (omega arith) c.loop-l.odd c.eight_odd-odd.result c.loop-l.invariant.1 c.eight_odd-odd.ensures.odd)
+
+pub returns : goal.returns
+returns c = record { fits = row-covered c.args.sheet.now c.args.n c.args.c 8 _ c.loop-l.l c.loop-l.odd c.eight_odd.result (omega (arith, c.requires.room)) (omega (arith, c.loop-l-test.false)) c.loop-l.invariant.0 c.loop-l.invariant.1 c.eight_odd.ensures.odd }

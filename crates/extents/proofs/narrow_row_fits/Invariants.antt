@@ -1,0 +1,15 @@
+-- `extents::narrow_row_fits` meets its contract. The loop's invariant: something was odd exactly if not every pair before the
+-- limit fits. What it leaves is the last chunk (`row-covered`).
+use mathlib.Core.Path.{◌≡◌}
+use mathlib.Core.Bool.{not}
+use Prim.Native.Nat.{◌+◌, ◌-◌, ◌≤◌}
+use native.Mathlib.Omega.{arith}
+use Rattle.plain.specs.Below.{every_below}
+use Rattle.extents.proofs.Chunks.{both_at, none_both, odd-chunk, row-covered}
+use Rattle.extents.proofs.narrow_row_fits.Given as goal
+
+abbrev pub invariant-loop-l : goal.invariant-loop-l
+invariant-loop-l l = (l.l ≤ l.n + 1) × (every_below l.l (both_at l.sheet l.n l.c) ≡ not l.odd)
+
+abbrev pub decreases-loop-l : goal.decreases-loop-l
+decreases-loop-l l = l.last - l.l

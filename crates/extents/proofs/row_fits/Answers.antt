@@ -1,0 +1,29 @@
+use mathlib.Core.Path.{◌≡◌, sym}
+use mathlib.Core.Bool.{true}
+use Prim.Native.Nat.{◌+◌, ◌-◌, ◌≤◌}
+use native.Mathlib.Omega.{arith}
+use borrow.Author.Rules.{rules}
+use Rattle.plain.specs.Below.{every_below}
+use Rattle.plain.proofs.Below.{every-step, every-fails, every-fewer}
+use Rattle.plain.proofs.Calls.{refused, passed}
+use Rattle.extents.specs.Sheet.{fits_at, row_fits}
+use Rattle.extents.proofs.Rows.{none-judged, judged}
+use Rattle.extents.proofs.Size.{longer}
+use Rattle.extents.proofs.row_fits.Goals as goal
+
+pub loop-l-init : goal.loop-l-init
+loop-l-init c = (omega arith, none-judged _ _ _ _)
+
+pub returns-then-not-entry_fits : goal.returns-then-not-entry_fits
+unfolding row_fits
+returns-then-not-entry_fits c = record { fits = sym (every-fails _ _ c.loop-l.l (omega (arith, c.loop-l-test.true)) (refused (judged _ _ _ c.loop-l.invariant.0 c.entry.ensures.byte c.entry_fits.ensures.fits) c.if-not-entry_fits.true-raw)) }
+
+pub overflow_add-l : goal.overflow_add-l
+overflow_add-l c = omega (arith, longer _ _ c.requires.size, c.loop-l-test.true)
+
+pub loop-l-preserved : goal.loop-l-preserved
+loop-l-preserved c = (omega (arith, c.loop-l.invariant.0), every-step _ _ c.loop-l.invariant.1 (passed (judged _ _ _ c.loop-l.invariant.0 c.entry.ensures.byte c.entry_fits.ensures.fits) c.if-not-entry_fits.false-raw))
+
+pub returns : goal.returns
+unfolding row_fits
+returns c = record { fits = sym (every-fewer _ _ _ (omega (arith, c.loop-l-test.false)) c.loop-l.invariant.1) }

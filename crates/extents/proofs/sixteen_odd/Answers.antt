@@ -1,0 +1,16 @@
+use mathlib.Core.Path.{◌≡◌}
+use mathlib.Core.Bool.{not}
+use Prim.Native.Nat.{ℕ, ◌+◌, ◌-◌, ◌≤◌}
+use native.Mathlib.Omega.{arith}
+use borrow.Author.Rules.{rules}
+use Rattle.plain.specs.Below.{every_below}
+use Rattle.plain.proofs.Below.{every-none}
+use Rattle.extents.proofs.Rows.{odd-more, all-tried}
+use Rattle.extents.proofs.Chunks.{both_at, pair-here}
+use Rattle.extents.proofs.sixteen_odd.Goals as goal
+
+pub loop-i-init : goal.loop-i-init
+loop-i-init c = (omega arith, every-none _)
+
+pub loop-i-preserved : goal.loop-i-preserved
+loop-i-preserved c = (omega (arith, c.loop-i-test.true), odd-more c.loop-i.i (λ (k : ℕ). both_at c.args.sheet.now c.args.n c.args.c (c.args.l + k)) c.loop-i.odd c.is_pair_odd-odd.result c.loop-i.invariant.1 (pair-here _ _ _ (c.requires.held.each _ (omega (arith, c.requires.short, c.requires.start))) (c.requires.held.each _ (omega (arith, c.requires.short, c.requires.room, c.loop-i-test.true))) c.entry-free.ensures.byte c.entry-greedy.ensures.byte c.is_pair_odd-odd.ensures.odd))

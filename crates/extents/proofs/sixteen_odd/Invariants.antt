@@ -1,0 +1,18 @@
+-- `extents::sixteen_odd` meets its contract. The loop's invariant: something was odd exactly if not every pair of the chunk
+-- so far fits.
+use mathlib.Core.Path.{◌≡◌}
+use mathlib.Core.Bool.{not}
+use Prim.Native.Nat.{ℕ, ◌+◌, ◌-◌, ◌≤◌}
+use native.Mathlib.Omega.{arith}
+use borrow.Author.Rules.{rules}
+use Rattle.plain.specs.Below.{every_below}
+use Rattle.plain.proofs.Below.{every-none}
+use Rattle.extents.proofs.Rows.{odd-more, all-tried}
+use Rattle.extents.proofs.Chunks.{both_at, pair-here}
+use Rattle.extents.proofs.sixteen_odd.Given as goal
+
+abbrev pub invariant-loop-i : goal.invariant-loop-i
+invariant-loop-i l = (l.i ≤ 16) × (every_below l.i (λ (k : ℕ). both_at l.sheet l.n l.c (l.l + k)) ≡ not l.odd)
+
+abbrev pub decreases-loop-i : goal.decreases-loop-i
+decreases-loop-i l = 16 - l.i
