@@ -59,6 +59,8 @@ class Function:
             for var, step in place:
                 self.typed[norm(step)] = var
         self.pre = (it["pre"] or {}).get("fields")
+        if self.pre and not any(self.pre):
+            self.pre = []
         self.arms = {}
         for arm in it["arms"]:
             if arm:
@@ -88,7 +90,7 @@ class Function:
 def clause_path(rest, fields):
     """`.1.1.0` over right-nested pairs, by the clauses' names."""
     m = re.match(r"((?:\.[01])+)", rest)
-    if not fields:
+    if not fields or not any(fields):
         return rest
     if len(fields) == 1:
         return "." + fields[0] + rest
@@ -137,6 +139,15 @@ def turn_chain(m, f, requires, said):
     sub = f.parts.get(norm(step), {})
     if parts[1:2] and parts[1] in sub:
         rest = "." + sub[parts[1]] + "".join("." + q for q in parts[2:])
+    m2 = re.match(r"\.(auto|new|kept)((?:\.[01])+)", rest)
+    if m2 and p[3] in f.it["params"]:
+        path = m2.group(2).split(".")[1:]
+        k = 0
+        while k < len(path) and path[k] == "1":
+            k += 1
+        names = f.it["params"][p[3]]
+        if k < len(path) and k < len(names):
+            rest = "." + m2.group(1) + "." + names[k] + "".join("." + q for q in path[k + 1:]) + rest[m2.end():]
     c = f.clauses.get(norm(step))
     if rest.startswith(".ensures") and c and c.get("fields"):
         rest = ".ensures" + clause_path(rest[len(".ensures"):], c["fields"])
@@ -160,7 +171,7 @@ def parts_of(body):
             parts.append(b[at:i])
             at = i + 1
     parts.append(b[at:-1])
-    return [p.strip() for p in parts]
+    return [p.strip() for p in parts if p.strip()]
 
 
 def as_record(body, fields):
@@ -187,6 +198,26 @@ def as_record(body, fields):
         paths.append(path + (".0" if i < len(left) - 1 else ""))
         path += ".1"
     return " " + before + f"let whole = {rest.strip()} in record {{ " + "; ".join([f"{n} = {v}" for n, v in zip(fields, given)] + [f"{n} = whole{q}" for n, q in zip(left, paths)]) + " }"
+
+
+def clauses_of(body, fields):
+    """Each clause's part of an answer that was a tuple of right-nested pairs."""
+    if len(fields) == 1:
+        return [(fields[0], body.strip())]
+    text = as_record(body, fields)
+    m = re.match(r"(?s)\s*(.*?)record \{ (.*) \}$", text)
+    before, inner = m.group(1), m.group(2)
+    out, depth, at = [], 0, 0
+    for i, ch in enumerate(inner + ";"):
+        if ch in "({[":
+            depth += 1
+        elif ch in ")}]":
+            depth -= 1
+        elif ch == ";" and depth == 0:
+            n, _, v = inner[at:i].partition("=")
+            out.append((n.strip(), before + v.strip()))
+            at = i + 1
+    return out
 
 
 def requires_of(crate, fn):
@@ -303,24 +334,32 @@ def main():
             with open(os.path.join(target, "Invariants.antt"), "w", encoding="utf-8") as o:
                 o.write("\n".join(head_comment + uses + [f"use {goal_module}.Given as goal", ""]) + "\n" + "\n\n".join(inv_text) + "\n")
         ans_text = []
+        done = set()
         for old, params, rhs, comment, un in answers:
             new = f.goal(old)
             if new is None:
                 said.append(f"no goal {old}")
-                if opened is None:
-                    continue
-                continue
-            if opened is not None and new not in opened.get(fn, ()):
                 continue
             body = CHAIN.sub(lambda m: turn_chain(m, f, requires, said), rhs)
             params = [q for q in params if q != "κs"]
+            heads = [l for cm, ls in un for l in cm + ls]
             fields = f.fields(old)
+            wanted = opened.get(fn, set()) if opened is not None else {new}
+            if fields and new not in wanted:
+                for n, v in clauses_of(body, fields):
+                    it = f"{new}-clause-{n}"
+                    if it in wanted:
+                        done.add(it)
+                        ans_text.append("\n".join(comment + [f"pub {it} : goal.{it}"] + heads + [f"{it} {' '.join(params)} = {v}"]))
+                continue
+            if new not in wanted:
+                continue
+            done.add(new)
             if fields:
                 body = as_record(body, fields)
-            heads = [l for cm, ls in un for l in cm + ls]
             ans_text.append("\n".join(comment + [f"pub {new} : goal.{new}"] + heads + [f"{new} {' '.join(params)} ={body}"]))
         if opened is not None:
-            missing = opened.get(fn, set()) - {f.goal(a[0]) for a in answers}
+            missing = opened.get(fn, set()) - done
             for g in sorted(missing):
                 ans_text.append(f"pub {g} : goal.{g}\n{g} c = ?")
                 said.append(f"no old answer for {g}")

@@ -1,0 +1,19 @@
+-- The tally of all records, summed up.
+use mathlib.Core.Path.{◌∙◌}
+use native.Mathlib.Omega.{arith}
+use Rattle.plain.specs.Lists.{range, listed}
+use Rattle.defs.specs.Table.{word_at}
+use Rattle.defs.proofs.Starts.{listed-33, tally-zero, tally-starts, tally-fits}
+use borrow.Author.Rules.{rules}
+use Rattle.defs.proofs.ruledef.ruleset_starts.Goals as goal
+
+pub count_rules-requires : goal.count_rules-requires
+unfolding listed range
+count_rules-requires c = tally-zero c.args.table.now
+
+pub sum_counts-requires-clause-counts_bound : goal.sum_counts-requires-clause-counts_bound
+unfolding word_at
+sum_counts-requires-clause-counts_bound c = tally-fits c.args.table.now _ c.count_rules.ensures (omega (arith, c.type_inv.table 1))
+
+pub returns : goal.returns
+returns c = record { answers = c.sum_counts.ensures ∙ tally-starts _ _ c.count_rules.ensures }

@@ -1,0 +1,7 @@
+-- `Walker::hold` is `held`, limit first.
+use Rattle.syntax.proofs.Useful.{held_by}
+use borrow.Author.Rules.{rules}
+use Rattle.syntax.proofs.walker.Walker.hold.Goals as goal
+
+pub returns : goal.returns
+returns c = record { answers = held_by _ _ _ _ c.least-limit.ensures.answers c.least-cursor.ensures.answers }

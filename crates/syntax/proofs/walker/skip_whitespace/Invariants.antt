@@ -1,0 +1,14 @@
+-- The loop's invariant: the useful place from here on is the useful place from the start.
+use borrow.Author.Rules.{rules}
+use mathlib.Core.Path.{refl, sym, ◌∙◌}
+use Prim.Native.Nat.{◌-◌}
+use native.Mathlib.Omega.{arith}
+use borrow.Author.Tests.{not-true, not-false}
+use Rattle.syntax.proofs.Useful.{Skipped, skip-stops, skip_goes_on, skip-ends}
+use Rattle.syntax.proofs.walker.skip_whitespace.Given as goal
+
+abbrev pub invariant-loop-at : goal.invariant-loop-at
+invariant-loop-at l = Skipped l.line l.from l.end l.at
+
+abbrev pub decreases-loop-at : goal.decreases-loop-at
+decreases-loop-at l = l.end - l.at

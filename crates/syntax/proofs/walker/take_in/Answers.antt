@@ -1,0 +1,16 @@
+-- A byte that is neither marked nor a bracket is taken in; a marked one is the cut where it may be; any other byte nests.
+use mathlib.Core.Path.{sym, ◌∙◌}
+use mathlib.Core.Logic.{⊎_elim, inl, inr}
+use native.Mathlib.Omega.{arith}
+use Rattle.syntax.proofs.Turns.{nest-none, turn-cut, turn-unmarked, turn-nested}
+use borrow.Author.Rules.{rules}
+use Rattle.syntax.proofs.walker.take_in.Goals as goal
+
+pub returns-then-class-lt-OPEN_PAREN : goal.returns-then-class-lt-OPEN_PAREN
+returns-then-class-lt-OPEN_PAREN c = λ x b h e s. turn-unmarked _ x b c.args.s h e _ (omega (arith, c.if-class-lt-OPEN_PAREN.true)) (λ k. c.on.ensures ∙ nest-none _ b c.args.s h k s c.if-class-lt-OPEN_PAREN.true)
+
+pub returns-then-class-ge-MARK : goal.returns-then-class-ge-MARK
+returns-then-class-ge-MARK c = λ x b h e s. turn-cut _ x b c.args.s h e c.if-class-ge-MARK.true (sym c.may_cut.ensures ∙ c.if-may_cut.true)
+
+pub returns : goal.returns
+returns c = let h = c.if-may_cut.branch in ?
