@@ -1,0 +1,20 @@
+use borrow.Author.Rules.{rules}
+use Prim.Native.Nat.{◌-◌}
+use native.Mathlib.Omega.{arith}
+use lib.ListN.{length}
+use Rattle.plain.proofs.Passed.{at_most_one}
+use Rattle.resolver.proofs.Tally.{Judging, none-judged, one-judged, all-judged}
+use Rattle.resolver.proofs.instruction.judge.Goals as goal
+
+pub loop-i-init : goal.loop-i-init
+loop-i-init c = none-judged _
+
+pub loop-i-preserved : goal.loop-i-preserved
+loop-i-preserved c =
+    one-judged
+    c.loop-i.invariant
+    c.loop-i-test.true
+    c.is_bad.ensures.bad
+    c.is_resolved.ensures.resolved
+    c.is_known.ensures.known
+    c.is_guess.ensures.guess

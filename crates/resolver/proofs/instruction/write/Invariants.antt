@@ -1,0 +1,15 @@
+-- `resolver::instruction::write` meets its contract. The loop's invariant: the buffer has the indices of the words
+-- passed at its start, and the place is past them. The measure is the number of words left.
+use borrow.Author.Rules.{rules}
+use mathlib.Core.Option.{some}
+use Prim.Native.Nat.{◌-◌, ◌<◌}
+use native.Mathlib.Omega.{arith}
+use lib.ListN.{length}
+use Rattle.resolver.proofs.Written.{Writing, none_written, not_written, has-place, one_written, all-written}
+use Rattle.resolver.proofs.instruction.write.Given as goal
+
+abbrev pub invariant-loop-i : goal.invariant-loop-i
+invariant-loop-i l = Writing l.words (some l.size) l.fn.chosen l.i l.at l.chosen
+
+abbrev pub decreases-loop-i : goal.decreases-loop-i
+decreases-loop-i l = length l.words - l.i

@@ -1,0 +1,14 @@
+-- `resolver::outcome::mark_guess` meets its contract: each answer rewrites with the test of the kind that led to it.
+use native.Mathlib.Omega.{arith}
+use borrow.Author.Tests.{le-leb, lt-leb}
+use Rattle.resolver.specs.Passes.{marked_word}
+use borrow.Author.Rules.{rules}
+use Rattle.resolver.proofs.outcome.mark_guess.Goals as goal
+
+pub returns-then-kind-ge-FAILED : goal.returns-then-kind-ge-FAILED
+unfolding marked_word
+returns-then-kind-ge-FAILED c = record { marked = rw (← c.kind.ensures.kind, le-leb 1 c.kind.result (omega (arith, c.if-kind-ge-FAILED.true))) }
+
+pub returns : goal.returns
+unfolding marked_word
+returns c = record { marked = rw (← c.kind.ensures.kind, lt-leb 1 c.kind.result (omega (arith, c.if-kind-ge-FAILED.false))) }

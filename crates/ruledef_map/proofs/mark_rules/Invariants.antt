@@ -1,0 +1,15 @@
+-- The loop's invariant: every rule passed has its mark.
+use borrow.Author.Rules.{rules}
+use mathlib.Core.Path.{◌≡◌, refl}
+use Prim.Native.Nat.{ℕ, ◌-◌, ◌≤◌, ◌<◌}
+use native.Mathlib.Omega.{arith}
+use lib.ListN.{length, get_or, length-set}
+use Rattle.ruledef_map.specs.RuledefMap.{prefix_bytes, mark_of}
+use Rattle.ruledef_map.proofs.Orders.{marks-more}
+use Rattle.ruledef_map.proofs.mark_rules.Given as goal
+
+abbrev pub invariant-loop-rule : goal.invariant-loop-rule
+invariant-loop-rule l = (length l.marks ≡ length l.fn.marks) × ((l.rule ≤ l.rules) × ((i : ℕ) → i < l.rule → get_or l.marks i 0 ≡ mark_of l.table (prefix_bytes l.prefix) i))
+
+abbrev pub decreases-loop-rule : goal.decreases-loop-rule
+decreases-loop-rule l = l.rules - l.rule

@@ -1,0 +1,20 @@
+-- The loop's invariant: what is left to compare decides as the whole does.
+use borrow.Author.Rules.{rules}
+use mathlib.Core.Path.{◌≡◌, refl, sym, ap, ◌∙◌}
+use mathlib.Core.List.{List}
+use Prim.Native.Nat.{◌-◌, ◌≤◌, ◌<◌}
+use native.Mathlib.Omega.{arith}
+use lib.ListN.{length}
+use Rattle.defs.specs.Table.{rule_parts, parts_between}
+use Rattle.ruledef_map.specs.RuledefMap.{leading, prefix_bytes, prefix_length}
+use Rattle.defs.specs.declared.ruledef.Part.{Part}
+use Rattle.defs.specs.declared.ruledef.Part.TheVariants as Part
+use Rattle.defs.proofs.Words.{parts_whole, parts_within}
+use Rattle.ruledef_map.proofs.Prefixes.{continued, continued-whole, continued-full, met-stop, met-short, met-other, met-same, ended-stop}
+use Rattle.ruledef_map.proofs.prefix_length.Given as goal
+
+abbrev pub invariant-loop-at : goal.invariant-loop-at
+invariant-loop-at l = (l.end ≤ length l.table) × ((l.same ≤ 4) × (continued (parts_between l.table l.at l.end) (prefix_bytes l.prefix) l.same ≡ prefix_length (rule_parts l.table l.rule) (prefix_bytes l.prefix)))
+
+abbrev pub decreases-loop-at : goal.decreases-loop-at
+decreases-loop-at l = l.end - l.at

@@ -1,0 +1,15 @@
+-- The loop's invariant: the rules of the marks below this size are written.
+use borrow.Author.Rules.{rules}
+use mathlib.Core.Path.{◌≡◌, refl, ◌∙◌}
+use Prim.Native.Nat.{◌-◌, ◌≤◌}
+use native.Mathlib.Omega.{arith}
+use lib.ListN.{length, length-take}
+use Rattle.ruledef_map.specs.RuledefMap.{prefix_bytes}
+use Rattle.ruledef_map.proofs.Orders.{Taken, taken_none, taken-room, taken_more, taken-all, put-many, put-short, put_all}
+use Rattle.ruledef_map.proofs.query_prefixed.Given as goal
+
+abbrev pub invariant-loop-size : goal.invariant-loop-size
+invariant-loop-size l = Taken l.marks l.rules l.fn.found l.size l.count l.found × ((length l.found ≡ length l.fn.found) × (l.size ≤ 5))
+
+abbrev pub decreases-loop-size : goal.decreases-loop-size
+decreases-loop-size l = 5 - l.size

@@ -1,0 +1,32 @@
+use borrow.Author.Rules.{rules}
+use mathlib.Core.Path.{◌≡◌, refl, sym, ◌∙◌}
+use Prim.Native.Nat.{◌-◌, ◌≤◌}
+use native.Mathlib.Omega.{arith}
+use lib.ListN.{length, length-set}
+use Rattle.defs.specs.Ruledef.{is_top_rule}
+use Rattle.ruledef_map.specs.RuledefMap.{top_rules}
+use Rattle.ruledef_map.proofs.Orders.{Written, written_none, written-hit, written-miss, written-first, put-many, put-short, put_all}
+use Rattle.ruledef_map.proofs.top_rules.Goals as goal
+
+pub returns-then-rules-gt-MOST_RULES : goal.returns-then-rules-gt-MOST_RULES
+returns-then-rules-gt-MOST_RULES c = record { answers = put-many _ _ _ (omega (arith, c.rule_count-rules.ensures.answers, c.if-rules-gt-MOST_RULES.true)) }
+
+pub returns-then-found-rules : goal.returns-then-found-rules
+returns-then-found-rules c = record { answers = put-short _ _ _ (omega (arith, c.rule_count-rules.ensures.answers, c.if-found-rules.true)) }
+
+pub loop-rule-init : goal.loop-rule-init
+loop-rule-init c = (written_none _ _ _, (refl, (omega arith, omega arith)))
+
+pub loop-rule-preserved-then-is_top_rule : goal.loop-rule-preserved-then-is_top_rule
+loop-rule-preserved-then-is_top_rule c =
+    (written-hit _ _ _ _ _ _ c.loop-rule.invariant.0 (sym c.is_top_rule.ensures.answers ∙ c.if-is_top_rule.true) (omega arith) (omega arith), (simp length-set c.loop-rule.invariant.1.0, (omega arith, omega arith)))
+
+pub loop-rule-preserved : goal.loop-rule-preserved
+loop-rule-preserved c = (written-miss _ _ _ _ _ _ c.loop-rule.invariant.0 (sym c.is_top_rule.ensures.answers ∙ c.if-is_top_rule.false), (c.loop-rule.invariant.1.0, (omega arith, omega arith)))
+
+pub returns : goal.returns
+unfolding top_rules
+returns c = record { answers =
+    let end : c.loop-rule.rule ≡ c.rule_count-rules.result = omega arith in
+    written-first _ _ _ _ _ _ c.loop-rule.invariant.0 _ refl (end ∙ c.rule_count-rules.ensures.answers)
+    ∙ put_all _ _ _ (omega (arith, c.rule_count-rules.ensures.answers, c.if-rules-gt-MOST_RULES.false)) (omega (arith, c.rule_count-rules.ensures.answers, c.if-found-rules.false)) }

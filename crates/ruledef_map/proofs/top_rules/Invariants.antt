@@ -1,0 +1,16 @@
+-- The loop's invariant: the top rules passed are written.
+use borrow.Author.Rules.{rules}
+use mathlib.Core.Path.{◌≡◌, refl, sym, ◌∙◌}
+use Prim.Native.Nat.{◌-◌, ◌≤◌}
+use native.Mathlib.Omega.{arith}
+use lib.ListN.{length, length-set}
+use Rattle.defs.specs.Ruledef.{is_top_rule}
+use Rattle.ruledef_map.specs.RuledefMap.{top_rules}
+use Rattle.ruledef_map.proofs.Orders.{Written, written_none, written-hit, written-miss, written-first, put-many, put-short, put_all}
+use Rattle.ruledef_map.proofs.top_rules.Given as goal
+
+abbrev pub invariant-loop-rule : goal.invariant-loop-rule
+invariant-loop-rule l = Written (is_top_rule l.table) 0 l.fn.found l.rule l.count l.found × ((length l.found ≡ length l.fn.found) × ((l.rule ≤ l.rules) × (l.count ≤ l.rule)))
+
+abbrev pub decreases-loop-rule : goal.decreases-loop-rule
+decreases-loop-rule l = l.rules - l.rule
