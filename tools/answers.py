@@ -58,6 +58,7 @@ class Function:
         for place in it["typed"]:
             for var, step in place:
                 self.typed[norm(step)] = var
+        self.args = {a.split(".")[-1]: b.split(".")[-1] for a, b in it["args"] if a.startswith(".args ")}
         self.pre = (it["pre"] or {}).get("fields")
         if self.pre and not any(self.pre):
             self.pre = []
@@ -114,6 +115,21 @@ def clause_path(rest, fields):
 CHAIN = re.compile(r"(?<![\w.'-])(c|w)((?:\.[^\s(){}.;,@\"«»\[\]\\]+)+)")
 
 
+ALIAS = re.compile(r"let ([^\s(){}.;,@\"«»=:]+) = ((?:c)(?:\.[^\s(){}.;,@\"«»]+)+) in(\s+)")
+
+
+def unaliased(body):
+    """A body with no `let a = c.before.before.step in`: the chain stands for the name."""
+    while True:
+        m = ALIAS.search(body)
+        if not m:
+            return body
+        name, chain = m.group(1), m.group(2)
+        rest = body[m.end():]
+        rest = re.sub(r"(?<![\w.'-])" + re.escape(name) + r"(?![\w'-])", lambda _: chain, rest)
+        body = body[:m.start()] + m.group(3).lstrip("\n") + rest if False else body[:m.start()].rstrip(" ") + ("" if body[:m.start()].endswith("\n") else " ") + rest
+
+
 def turn_chain(m, f, requires, said):
     head, parts = m.group(1), m.group(2).split(".")[1:]
     while parts and parts[0] == "before":
@@ -123,6 +139,8 @@ def turn_chain(m, f, requires, said):
     step, rest = parts[0], "".join("." + p for p in parts[1:])
     if step == "requires":
         return head + ".requires" + clause_path(rest, requires)
+    if step == "args" and parts[1:] and parts[1] in f.args:
+        return head + ".args." + f.args[parts[1]] + "".join("." + q for q in parts[2:])
     if step in ("args", "ranges", "well_formed", "type_inv", "utf8"):
         return head + "." + step + rest
     for k in range(len(parts), 1, -1):
@@ -326,7 +344,7 @@ def main():
                 each = "|".join(re.escape(q) for q in sorted(live, key=len, reverse=True))
                 body = re.sub(
                     r"(?<![\w.'₀-])(" + each + r")(?![\w'₀-])",
-                    lambda m: "l.fn." + m.group(1).rstrip("₀") if m.group(1).endswith("₀") else "l." + m.group(1),
+                    lambda m: "l.initial." + m.group(1).rstrip("₀") if m.group(1).endswith("₀") else "l." + m.group(1),
                     body,
                 )
             inv_text.append("\n".join(comment + [f"abbrev pub {new} : goal.{new}", f"{new} l ={body}"]))
@@ -340,7 +358,7 @@ def main():
             if new is None:
                 said.append(f"no goal {old}")
                 continue
-            body = CHAIN.sub(lambda m: turn_chain(m, f, requires, said), rhs)
+            body = CHAIN.sub(lambda m: turn_chain(m, f, requires, said), unaliased(rhs))
             params = [q for q in params if q != "κs"]
             heads = [l for cm, ls in un for l in cm + ls]
             fields = f.fields(old)

@@ -234,7 +234,7 @@ module _ (ts : List Bool) (rs : List Rule) (fits : data_fits (data_from ts rs) �
       rule-good (length ts) r
       (and_left (rule_fits (length ts) r) _ (every-last (rule_fits (length ts)) xs (r ∷ ys) (ap (every (rule_fits (length ts))) (sym e) ∙ f.each)))
 
-  rules_are : listed (length rs) (rule_at table) ≡ rs
+  rules-are : listed (length rs) (rule_at table) ≡ rs
   unfolding rule_at rule_parts
   rules-are =
       listed-is rs (rule_at table)

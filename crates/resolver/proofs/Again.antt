@@ -21,7 +21,7 @@ use Rattle.resolver.proofs.Words.{outcome-of-word, good-word, small_size}
 use Rattle.resolver.proofs.Marks.{each-good, words_of-outcomes}
 use Rattle.resolver.proofs.Guesses.{as-guess, marked-choice, marked-twice}
 use Rattle.resolver.proofs.Cases.{Case, SameChoice, which, answer_in, in-case, on-bad}
-use Rattle.resolver.proofs.Cases.Case.{case-11, case-12, case-13, case-14, case-0}
+use Rattle.resolver.proofs.Cases.Case.{case_11, case_12, case_13, case_14, case_0}
 
 -- what an accepted list is
 pub accepted :
@@ -118,17 +118,17 @@ module _ (ws : List ℕ) (last : Bool) (buffer : List ℕ) where
 
     again-in : Case last buffer os → Again
     unfolding Again
-    again-in (case-11 r) = refused-again (answer (case-11 r))
-    again-in (case-12 r k) = refused-again (answer (case-12 r k))
-    again-in (case-13 r k t) =
-        rw (answer (case-13 r k t))
-        (answer-again buffer (case-13 (rw same.resolved r) (rw same.known k) (rw same.choices t))
+    again-in (case_11 r) = refused-again (answer (case_11 r))
+    again-in (case_12 r k) = refused-again (answer (case_12 r k))
+    again-in (case_13 r k t) =
+        rw (answer (case_13 r k t))
+        (answer-again buffer (case_13 (rw same.resolved r) (rw same.known k) (rw same.choices t))
         ∙ rw (same.choices, marked-twice))
-    again-in (case-14 r k t s) = refused-again (answer (case-14 r k t s))
-    again-in (case-0 r k t s) =
+    again-in (case_14 r k t s) = refused-again (answer (case_14 r k t s))
+    again-in (case_0 r k t s) =
         let room = written-length buffer (choice_of os) (ltb-false (length buffer) (length (choice_of os)) s) in
-        rw (answer (case-0 r k t s))
-        (answer-again (at_start (choice_of os) buffer) (case-0 (rw same.resolved r) (rw same.known k)
+        rw (answer (case_0 r k t s))
+        (answer-again (at_start (choice_of os) buffer) (case_0 (rw same.resolved r) (rw same.known k)
         (rw same.choices t) (rw (same.choices, room) s))
         ∙ rw (same.choices, marked-twice, written-again))
 

@@ -22,7 +22,7 @@ use Rattle.plain.proofs.Passed.{some-counted}
 use Rattle.plain.proofs.Kept.{kept-counted}
 use Rattle.resolver.proofs.Least.{least_known}
 use Rattle.resolver.proofs.Cases.{Case, none_resolved, none_known, is_tied, answer_in, in-case, on-bad}
-use Rattle.resolver.proofs.Cases.Case.{case-11, case-12, case-13, case-14, case-0}
+use Rattle.resolver.proofs.Cases.Case.{case_11, case_12, case_13, case_14, case_0}
 use Rattle.resolver.proofs.LastPass.{Promised, promised}
 
 -- what is known of words that were judged: they are a list of outcomes, and these are counted
@@ -105,7 +105,7 @@ module _ (ws : List ℕ) (last : Bool) (buffer : List ℕ) where
     -- 11
     pub none-resolved : resolved ≡ 0 → Promised ws last buffer NoneResolved ws buffer
     none-resolved none_of =
-        promised ws last buffer NoneResolved (answer (case-11 (rw (← fine.resolveds) (eq-eqb _ _ none_of))))
+        promised ws last buffer NoneResolved (answer (case_11 (rw (← fine.resolveds) (eq-eqb _ _ none_of))))
 
     resolved-test : (resolved ≡ 0 → ⊥) → none_resolved (map outcome_of ws) ≡ false
     resolved-test some-of-them = rw (← fine.resolveds) (ne_eqb _ _ some-of-them)
@@ -114,7 +114,7 @@ module _ (ws : List ℕ) (last : Bool) (buffer : List ℕ) where
     pub none-known : (resolved ≡ 0 → ⊥) → known ≡ 0 → Promised ws last buffer NoneKnown ws buffer
     none-known some-of-them none_of =
         promised ws last buffer NoneKnown
-        (answer (case-12 (resolved-test some-of-them) (rw (← fine.knowns) (eq-eqb _ _ none_of))))
+        (answer (case_12 (resolved-test some-of-them) (rw (← fine.knowns) (eq-eqb _ _ none_of))))
 
   module _ {resolved known guesses size times : ℕ} (found : Found ws resolved known guesses size times) where
     known-test : none_known (map outcome_of ws) ≡ false
@@ -128,7 +128,7 @@ module _ (ws : List ℕ) (last : Bool) (buffer : List ℕ) where
         promised ws last buffer (Tied times)
         (rw (marks, ← times-is found)
         (answer found.judged
-        (case-13 (resolved-test found.judged found.some_resolved) known-test (rw (on-last, times-is found) two))))
+        (case_13 (resolved-test found.judged found.some_resolved) known-test (rw (on-last, times-is found) two))))
 
     module _ (no_tie : (last && ltb 1 times) ≡ false) where
       tie-test : is_tied last (map outcome_of ws) ≡ false
@@ -140,7 +140,7 @@ module _ (ws : List ℕ) (last : Bool) (buffer : List ℕ) where
           promised ws last buffer (NoRoom times)
           (rw (← times-is found)
           (answer found.judged
-          (case-14 (resolved-test found.judged found.some_resolved) known-test tie-test
+          (case_14 (resolved-test found.judged found.some_resolved) known-test tie-test
           (rw (times-is found) (lt-ltb _ _ less)))))
 
       -- 0
@@ -152,5 +152,5 @@ module _ (ws : List ℕ) (last : Bool) (buffer : List ℕ) where
           promised ws last buffer (Chosen times)
           (rw (marks, writes, ← indices-are found, ← times-is found)
           (answer found.judged
-          (case-0 (resolved-test found.judged found.some_resolved) known-test tie-test
+          (case_0 (resolved-test found.judged found.some_resolved) known-test tie-test
           (rw (times-is found) (le-ltb _ _ room)))))

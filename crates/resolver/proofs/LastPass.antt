@@ -19,7 +19,7 @@ use Rattle.resolver.specs.declared.instruction.Selection.{Selection}
 use Rattle.resolver.proofs.Words.{sized-known}
 use Rattle.plain.proofs.Passed.{count_at}
 use Rattle.resolver.proofs.Cases.{Case, none_known, is_tied, which, told_by, left_by, answer-by, on-outcomes}
-use Rattle.resolver.proofs.Cases.Case.{case-11, case-12, case-13, case-14, case-0}
+use Rattle.resolver.proofs.Cases.Case.{case_11, case_12, case_13, case_14, case_0}
 use Rattle.resolver.proofs.OnlyLeast.{some-chosen, chosen-alone, alone-chosen}
 
 -- a list with a member and no second one
@@ -50,7 +50,7 @@ module _ (os : List Outcome) where
     only-chosen i only =
         let (resolved, known) = sized-known (get_or os i unresolved) only.known in
         let one = alone-chosen os i only in
-        let answer = answer-by ws true buffer os (case-0
+        let answer = answer-by ws true buffer os (case_0
         (ne_eqb _ _ (count_at is_resolved os unresolved refl i resolved))
         (ne_eqb _ _ (count_at is_known os unresolved refl i known))
         (rw one)
@@ -81,20 +81,20 @@ module _
       }
     where
       then : Case true buffer os → (selection_says r).0 ≡ 0 → (i : ℕ) × OnlyLeast os i
-      then (case-11 n) zero_is = absurd (omega (arith, number_of (answer-by ws true buffer os (case-11 n))))
-      then (case-12 n k) zero_is = absurd (omega (arith, number_of (answer-by ws true buffer os (case-12 n k))))
-      then (case-13 n k t) zero_is = absurd (omega (arith, number_of (answer-by ws true buffer os (case-13 n k t))))
-      then (case-14 n k t s) zero_is = no-tie-alone os k t
-      then (case-0 n k t s) zero_is = no-tie-alone os k t
+      then (case_11 n) zero_is = absurd (omega (arith, number_of (answer-by ws true buffer os (case_11 n))))
+      then (case_12 n k) zero_is = absurd (omega (arith, number_of (answer-by ws true buffer os (case_12 n k))))
+      then (case_13 n k t) zero_is = absurd (omega (arith, number_of (answer-by ws true buffer os (case_13 n k t))))
+      then (case_14 n k t s) zero_is = no-tie-alone os k t
+      then (case_0 n k t s) zero_is = no-tie-alone os k t
 
       or_else :
           Case true buffer os → ((i : ℕ) → OnlyLeast os i → ⊥) →
           ((selection_says r).0 ≡ 11) ⊎ (((selection_says r).0 ≡ 12) ⊎ ((selection_says r).0 ≡ 13))
-      or_else (case-11 n) None-only = inl (number_of (answer-by ws true buffer os (case-11 n)))
-      or_else (case-12 n k) None-only = inr (inl (number_of (answer-by ws true buffer os (case-12 n k))))
-      or_else (case-13 n k t) None-only = inr (inr (number_of (answer-by ws true buffer os (case-13 n k t))))
-      or_else (case-14 n k t s) None-only = let (i, only) = no-tie-alone os k t in absurd (None-only i only)
-      or_else (case-0 n k t s) None-only = let (i, only) = no-tie-alone os k t in absurd (None-only i only)
+      or_else (case_11 n) None-only = inl (number_of (answer-by ws true buffer os (case_11 n)))
+      or_else (case_12 n k) None-only = inr (inl (number_of (answer-by ws true buffer os (case_12 n k))))
+      or_else (case_13 n k t) None-only = inr (inr (number_of (answer-by ws true buffer os (case_13 n k t))))
+      or_else (case_14 n k t s) None-only = let (i, only) = no-tie-alone os k t in absurd (None-only i only)
+      or_else (case_0 n k t s) None-only = let (i, only) = no-tie-alone os k t in absurd (None-only i only)
 
 -- both promises of the call
 abbrev pub Promised : List ℕ → Bool → List ℕ → Selection → List ℕ → List ℕ → Type 0

@@ -55,8 +55,7 @@ returns-then-not-sizes_fit c = record { answers = and-off _ (refused (judged c.b
 pub returns-then-table-from : goal.returns-then-table-from
 unfolding table_fits
 returns-then-table-from c = record { answers =
-    let a = c.before.before.before in
-    after-sizes c.before (and-off _ (length-fails _ _ _ _ a.before.before.word_at.ensures.0 a.before.word-at2.ensures.0 a.word-at3.ensures.0 c.if-table-from.true)) }
+ after-sizes c.before (and-off _ (length-fails _ _ _ _ c.word_at-sets.ensures.answers c.word_at-rules.ensures.answers c.word_at-parts.ensures.answers c.if-table-from.true)) }
 
 pub flags_fit-requires-clause-sets_bound : goal.flags_fit-requires-clause-sets_bound
 flags_fit-requires-clause-sets_bound c = (sized c.before).sets
@@ -66,29 +65,28 @@ unfolding table_fits
 returns-then-not-flags_fit c = record { answers = after-length c.before.before (and-off _ (refused c.flags_fit.ensures c.if-not-flags_fit.true-raw)) }
 
 pub rulesets_fit-requires-clause-rules_bound : goal.rulesets_fit-requires-clause-rules_bound
-rulesets_fit-requires-clause-rules_bound c = let a = c.before.before.before in (sized a).rules
+rulesets_fit-requires-clause-rules_bound c = (sized c.before.before.before).rules
 
 pub returns-then-not-rulesets_fit : goal.returns-then-not-rulesets_fit
 unfolding table_fits
 returns-then-not-rulesets_fit c = record { answers = after-flags c.before.before (and-off _ (refused c.rulesets_fit.ensures c.if-not-rulesets_fit.true-raw)) }
 
 pub ranges_fit-requires-clause-rules_bound : goal.ranges_fit-requires-clause-rules_bound
-ranges_fit-requires-clause-rules_bound c = let a = c.before.before.before.before.before in (sized a).rules
+ranges_fit-requires-clause-rules_bound c = (sized c.before.before.before.before.before).rules
 
 pub returns-then-not-ranges_fit : goal.returns-then-not-ranges_fit
 unfolding table_fits
 returns-then-not-ranges_fit c = record { answers = after-rulesets c.before.before (and-off _ (refused c.ranges_fit.ensures c.if-not-ranges_fit.true-raw)) }
 
 pub parameters_fit-requires-clause-rules_bound : goal.parameters_fit-requires-clause-rules_bound
-parameters_fit-requires-clause-rules_bound c = let a = c.before.before.before.before.before.before.before in (sized a).rules
+parameters_fit-requires-clause-rules_bound c = (sized c.before.before.before.before.before.before.before).rules
 
 pub returns-then-not-parameters_fit : goal.returns-then-not-parameters_fit
 unfolding table_fits
 returns-then-not-parameters_fit c = record { answers = after-ranges c.before.before (and-off _ (refused c.parameters_fit.ensures c.if-not-parameters_fit.true-raw)) }
 
 pub parts_fit-requires-clause-sets_bound : goal.parts_fit-requires-clause-sets_bound
-parts_fit-requires-clause-sets_bound c = let a = c.before.before.before.before.before.before.before.before.before in
-    let words = a.before.before in (sized a).sets
+parts_fit-requires-clause-sets_bound c = (sized c.before.before.before.before.before.before.before.before.before).sets
 
 pub returns : goal.returns
 unfolding table_fits

@@ -9,7 +9,7 @@ use Rattle.defs.proofs.Words.{parts_within}
 use Rattle.acceptance.proofs.parameters_of.Given as goal
 
 abbrev pub invariant-loop-at : goal.invariant-loop-at
-invariant-loop-at l = (l.end ≤ length l.table) × ((l.count ≤ l.at) × (l.count + parameters_from l.table l.at l.end ≡ parameters_from l.table l.fn.at l.end))
+invariant-loop-at l = (l.end ≤ length l.table) × ((l.count ≤ l.at) × (l.count + parameters_from l.table l.at l.end ≡ parameters_from l.table l.initial.at l.end))
 
 abbrev pub decreases-loop-at : goal.decreases-loop-at
 decreases-loop-at l = l.end - l.at

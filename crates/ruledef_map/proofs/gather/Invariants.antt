@@ -11,7 +11,7 @@ use Rattle.ruledef_map.proofs.Orders.{Written, written_none, written-room, writt
 use Rattle.ruledef_map.proofs.gather.Given as goal
 
 abbrev pub invariant-loop-rule : goal.invariant-loop-rule
-invariant-loop-rule l = Written (λ i. eqb (get_or l.marks i 0) l.wanted) l.from l.fn.found l.rule l.count l.found × ((length l.found ≡ length l.fn.found) × ((l.rule ≤ l.rules) × (l.count ≤ length l.fn.found)))
+invariant-loop-rule l = Written (λ i. eqb (get_or l.marks i 0) l.wanted) l.from l.initial.found l.rule l.count l.found × ((length l.found ≡ length l.initial.found) × ((l.rule ≤ l.rules) × (l.count ≤ length l.initial.found)))
 
 abbrev pub decreases-loop-rule : goal.decreases-loop-rule
 decreases-loop-rule l = l.rules - l.rule

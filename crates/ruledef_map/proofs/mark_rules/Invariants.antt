@@ -9,7 +9,7 @@ use Rattle.ruledef_map.proofs.Orders.{marks-more}
 use Rattle.ruledef_map.proofs.mark_rules.Given as goal
 
 abbrev pub invariant-loop-rule : goal.invariant-loop-rule
-invariant-loop-rule l = (length l.marks ≡ length l.fn.marks) × ((l.rule ≤ l.rules) × ((i : ℕ) → i < l.rule → get_or l.marks i 0 ≡ mark_of l.table (prefix_bytes l.prefix) i))
+invariant-loop-rule l = (length l.marks ≡ length l.initial.marks) × ((l.rule ≤ l.rules) × ((i : ℕ) → i < l.rule → get_or l.marks i 0 ≡ mark_of l.table (prefix_bytes l.prefix) i))
 
 abbrev pub decreases-loop-rule : goal.decreases-loop-rule
 decreases-loop-rule l = l.rules - l.rule

@@ -17,7 +17,7 @@ loop-at-init c = (
   parts_within _ _ _ c.parts_of-parts.ensures.answers,
   (
     omega arith,
-    ap (λ (ps : List Part). continued ps (prefix_bytes c.args.t3) 0) (parts_whole _ _ _ c.parts_of-parts.ensures.answers) ∙ continued-whole _ _,
+    ap (λ (ps : List Part). continued ps (prefix_bytes c.args.prefix) 0) (parts_whole _ _ _ c.parts_of-parts.ensures.answers) ∙ continued-whole _ _,
   ),
 )
 
@@ -41,22 +41,22 @@ returns-then-same-ge-FULL c = continued-full _ _ _ c.if-same-ge-FULL.true ∙ c.
 
 pub returns-then-prefix-same : goal.returns-then-prefix-same
 returns-then-prefix-same c =
-    met-short _ _ _ c.loop-at.invariant.0 c.loop-at-test.true c.in-Exact.b (sym c.in-Exact.is ∙ c.part_at.ensures.answers) c.args.t3 _ c.if-same-ge-FULL.false c.if-prefix-same.true
+    met-short _ _ _ c.loop-at.invariant.0 c.loop-at-test.true c.in-Exact.b (sym c.in-Exact.is ∙ c.part_at.ensures.answers) c.args.prefix _ c.if-same-ge-FULL.false c.if-prefix-same.true
     ∙ c.loop-at.invariant.1.1
 
 pub returns-then-to_ascii_lowercase-prefix : goal.returns-then-to_ascii_lowercase-prefix
 returns-then-to_ascii_lowercase-prefix c =
-    let room : c.loop-at.same < length c.args.t3.bytes = search rules in
-    met-other _ _ _ c.loop-at.invariant.0 c.loop-at-test.true c.in-Exact.b (sym c.in-Exact.is ∙ c.part_at.ensures.answers) c.args.t3 _ c.if-same-ge-FULL.false c.if-prefix-same.false room _ c.to_ascii_lowercase.ensures.answers c.if-to_ascii_lowercase-prefix.true
+    let room : c.loop-at.same < length c.args.prefix.bytes = search rules in
+    met-other _ _ _ c.loop-at.invariant.0 c.loop-at-test.true c.in-Exact.b (sym c.in-Exact.is ∙ c.part_at.ensures.answers) c.args.prefix _ c.if-same-ge-FULL.false c.if-prefix-same.false room _ c.to_ascii_lowercase.ensures.answers c.if-to_ascii_lowercase-prefix.true
     ∙ c.loop-at.invariant.1.1
 
 pub loop-at-preserved : goal.loop-at-preserved
 loop-at-preserved c =
-    let room : c.loop-at.same < length c.args.t3.bytes = search rules in (
+    let room : c.loop-at.same < length c.args.prefix.bytes = search rules in (
       c.loop-at.invariant.0,
       (
         omega arith,
-        met-same _ _ _ c.loop-at.invariant.0 c.loop-at-test.true c.in-Exact.b (sym c.in-Exact.is ∙ c.part_at.ensures.answers) c.args.t3 _ c.if-same-ge-FULL.false c.if-prefix-same.false room _ c.to_ascii_lowercase.ensures.answers c.if-to_ascii_lowercase-prefix.false
+        met-same _ _ _ c.loop-at.invariant.0 c.loop-at-test.true c.in-Exact.b (sym c.in-Exact.is ∙ c.part_at.ensures.answers) c.args.prefix _ c.if-same-ge-FULL.false c.if-prefix-same.false room _ c.to_ascii_lowercase.ensures.answers c.if-to_ascii_lowercase-prefix.false
             ∙ c.loop-at.invariant.1.1,
       ),
     )

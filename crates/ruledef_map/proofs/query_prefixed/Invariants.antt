@@ -9,7 +9,7 @@ use Rattle.ruledef_map.proofs.Orders.{Taken, taken_none, taken-room, taken_more,
 use Rattle.ruledef_map.proofs.query_prefixed.Given as goal
 
 abbrev pub invariant-loop-size : goal.invariant-loop-size
-invariant-loop-size l = Taken l.marks l.rules l.fn.found l.size l.count l.found × ((length l.found ≡ length l.fn.found) × (l.size ≤ 5))
+invariant-loop-size l = Taken l.marks l.rules l.initial.found l.size l.count l.found × ((length l.found ≡ length l.initial.found) × (l.size ≤ 5))
 
 abbrev pub decreases-loop-size : goal.decreases-loop-size
 decreases-loop-size l = 5 - l.size

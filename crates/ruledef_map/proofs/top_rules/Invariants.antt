@@ -10,7 +10,7 @@ use Rattle.ruledef_map.proofs.Orders.{Written, written_none, written-hit, writte
 use Rattle.ruledef_map.proofs.top_rules.Given as goal
 
 abbrev pub invariant-loop-rule : goal.invariant-loop-rule
-invariant-loop-rule l = Written (is_top_rule l.table) 0 l.fn.found l.rule l.count l.found × ((length l.found ≡ length l.fn.found) × ((l.rule ≤ l.rules) × (l.count ≤ l.rule)))
+invariant-loop-rule l = Written (is_top_rule l.table) 0 l.initial.found l.rule l.count l.found × ((length l.found ≡ length l.initial.found) × ((l.rule ≤ l.rules) × (l.count ≤ l.rule)))
 
 abbrev pub decreases-loop-rule : goal.decreases-loop-rule
 decreases-loop-rule l = l.rules - l.rule

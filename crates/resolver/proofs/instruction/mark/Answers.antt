@@ -7,12 +7,10 @@ use Rattle.resolver.proofs.instruction.mark.Goals as goal
 
 pub returns-then-guesses-gt0 : goal.returns-then-guesses-gt0
 returns-then-guesses-gt0 c = record { marked =
-    let ws = c.args.words.now in
-    let (good, many) = c.requires in
-    c.mark_all.ensures.marked ∙ all-marked ws many good (omega (arith, c.if-guesses-gt0.true)) }
+ let (good, many) = c.requires in
+    c.mark_all.ensures.marked ∙ all-marked c.args.words.now many good (omega (arith, c.if-guesses-gt0.true)) }
 
 pub returns-else-guesses-gt0 : goal.returns-else-guesses-gt0
 returns-else-guesses-gt0 c = record { marked =
-    let ws = c.args.words.now in
-    let (good, many) = c.requires in
-    none-marked ws many good (omega (arith, c.if-guesses-gt0.false)) }
+ let (good, many) = c.requires in
+    none-marked c.args.words.now many good (omega (arith, c.if-guesses-gt0.false)) }

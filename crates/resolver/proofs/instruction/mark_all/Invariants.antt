@@ -9,7 +9,7 @@ use Rattle.plain.proofs.Replaced.{Replaced, replaced-none, replaced-turn, replac
 use Rattle.resolver.proofs.instruction.mark_all.Given as goal
 
 abbrev pub invariant-loop-i : goal.invariant-loop-i
-invariant-loop-i l = Replaced marked_word l.fn.words l.i l.words
+invariant-loop-i l = Replaced marked_word l.initial.words l.i l.words
 
 abbrev pub decreases-loop-i : goal.decreases-loop-i
-decreases-loop-i l = length l.fn.words - l.i
+decreases-loop-i l = length l.initial.words - l.i

@@ -80,15 +80,13 @@ pub mark-requires-clause-good : goal.mark-requires-clause-good
 mark-requires-clause-good c = let fine = (found c.before.before.before).judged in fine.good
 
 pub returns-then-count-gt1-clause-answers : goal.returns-then-count-gt1-clause-answers
-returns-then-count-gt1-clause-answers c = let whole = let place = c.before.before.before.before.before.before in
-    tie-on-last _ _ _ (found place)
+returns-then-count-gt1-clause-answers c = let whole = tie-on-last _ _ _ (found c.before.before.before.before.before.before)
     c.else-last.true
     c.if-count-gt1.true-raw
     c.mark.ensures.marked in whole.0
 
 pub returns-then-count-gt1-clause-last_pass : goal.returns-then-count-gt1-clause-last_pass
-returns-then-count-gt1-clause-last_pass c = let whole = let place = c.before.before.before.before.before.before in
-    tie-on-last _ _ _ (found place)
+returns-then-count-gt1-clause-last_pass c = let whole = tie-on-last _ _ _ (found c.before.before.before.before.before.before)
     c.else-last.true
     c.if-count-gt1.true-raw
     c.mark.ensures.marked in whole.1
@@ -103,15 +101,13 @@ pub mark-requires-2-clause-good : goal.mark-requires-2-clause-good
 mark-requires-2-clause-good c = let fine = (found c.before.before.before.before.before.before.before.before).judged in fine.good
 
 pub returns-clause-answers : goal.returns-clause-answers
-returns-clause-answers c = let whole = let place = c.before.before.before.before.before.before.before.before.before.before in
-    chosen _ _ _ (found place.before) (no_tie place)
+returns-clause-answers c = let whole = chosen _ _ _ (found c.before.before.before.before.before.before.before.before.before.before.before) (no_tie c.before.before.before.before.before.before.before.before.before.before)
     c.if-count-chosen.false
     c.mark-2.ensures.marked
     c.write.ensures.written in whole.0
 
 pub returns-clause-last_pass : goal.returns-clause-last_pass
-returns-clause-last_pass c = let whole = let place = c.before.before.before.before.before.before.before.before.before.before in
-    chosen _ _ _ (found place.before) (no_tie place)
+returns-clause-last_pass c = let whole = chosen _ _ _ (found c.before.before.before.before.before.before.before.before.before.before.before) (no_tie c.before.before.before.before.before.before.before.before.before.before)
     c.if-count-chosen.false
     c.mark-2.ensures.marked
     c.write.ensures.written in whole.1

@@ -9,7 +9,7 @@ use Rattle.resolver.proofs.Written.{Writing, none_written, not_written, has-plac
 use Rattle.resolver.proofs.instruction.write.Given as goal
 
 abbrev pub invariant-loop-i : goal.invariant-loop-i
-invariant-loop-i l = Writing l.words (some l.size) l.fn.chosen l.i l.at l.chosen
+invariant-loop-i l = Writing l.words (some l.size) l.initial.chosen l.i l.at l.chosen
 
 abbrev pub decreases-loop-i : goal.decreases-loop-i
 decreases-loop-i l = length l.words - l.i

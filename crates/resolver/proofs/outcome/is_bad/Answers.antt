@@ -16,7 +16,6 @@ returns-then-kind-eq-SIZED c = record { bad = rw (c.size-size.ensures.size, sym 
 pub returns : goal.returns
 unfolding is_bad
 returns c = record { bad =
-    let kind-is = c.kind-kind.ensures.kind in
-    let not-sized = rw kind-is at c.if-kind-eq-SIZED.false in
-    let not-unresolved = rw kind-is at c.if-kind-eq-UNRESOLVED.false in
+ let not-sized = rw c.kind-kind.ensures.kind at c.if-kind-eq-SIZED.false in
+    let not-unresolved = rw c.kind-kind.ensures.kind at c.if-kind-eq-UNRESOLVED.false in
     rw (c.size-size.ensures.size, ne_eqb _ _ not-sized, ne_eqb _ _ not-unresolved) }
