@@ -40,7 +40,9 @@ module _ (s : Scene) (law : Lawful s) (l c : ℕ) (ps : List Part) where
     greedy-declared : (g : Option ℕ) → s.greedy c l ≡ g
         → ((d : ℕ) → s.free c l ≡ some d → SamePlace s l d e → ⊥) → ((m d : ℕ) → Cut-for s l c ps m → s.free c m ≡ some d → SamePlace s l d e → ⊥)
         → First (same_end s.line l) (list_of g) e → Candidate s l c ps e
+    greedy-declared none p no-free no_cut x = elim x [ ]
     greedy-declared (some z) p no-free no_cut here = greedily p no-free no_cut
+    greedy-declared (some z) p no-free no_cut (there t x) = elim x [ ]
 
     cut-next : (b g : Option ℕ) → free_under s.free c (cut_for s l c ps) ≡ b → s.greedy c l ≡ g
         → ((d : ℕ) → s.free c l ≡ some d → SamePlace s l d e → ⊥)

@@ -72,7 +72,7 @@ module _ {A : Type 0} (same : A → A → Bool) where
 
   module _ {K : Type 0} (key : A → K) (alike : (x y : A) → same x y ≡ true → key x ≡ key y) (unlike : (x y : A) → same x y ≡ false → key x ≡ key y → ⊥) where
     -- a member with an equal key comes first
-    keyed : {xs : List A} {y : A} → Memᴰ y xs → (z : A) × First xs z × (key z ≡ key y)
+    keyed : {y : A} {xs : List A} → Memᴰ y xs → (z : A) × First xs z × (key z ≡ key y)
     keyed (Memᴰ.head {x = x} e) = (x, here, ap key (sym e))
     keyed (Memᴰ.tail {x = x} m) =
         let (z, f, q) = keyed m in

@@ -15,7 +15,7 @@ use Rattle.readings.specs.Demand.{BestReadings}
 use Rattle.readings.specs.Call.{call_with}
 use Rattle.readings.proofs.Leaves.{useful-only, exactly-found, span-found, cut-found}
 use Rattle.readings.proofs.Runs.{total, total-fewer}
-use Rattle.readings.proofs.Walks.{same_end}
+use Rattle.readings.proofs.Walks.{same-end}
 use Rattle.readings.proofs.Numbers.{Case, numbered}
 
 -- ---- the leaves of the relation
@@ -35,7 +35,7 @@ module _ (s : Scene) (l c : ℕ) where
 
 -- a rule's arguments say where it ends
 pub one_end : {s : Scene} {l c e f : ℕ} {ps : List Part} {a : Args} → From s l ps c a e → From s l ps c a f → e ≡ f
-one_end u v = same_end u v
+one_end u v = same-end u v
 
 -- ---- lists of readings
 

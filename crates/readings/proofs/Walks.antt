@@ -17,7 +17,7 @@ use Rattle.defs.specs.declared.ruledef.Part.{Part}
 use Rattle.defs.specs.declared.ruledef.Part.TheVariants.{Exact, Whitespace, Expression, Nested}
 use Rattle.readings.specs.Tree.{Tree, node, Args, end, expr, nest}
 use Rattle.readings.specs.Scene.{Scene, Lawful}
-use Rattle.readings.specs.Reading.{Exactly-at, From, finish, exact, whitespace, expression, nested}
+use Rattle.readings.specs.Reading.{Span, Exactly-at, From, finish, exact, whitespace, expression, nested}
 use Rattle.readings.specs.Plan.{give, Gives, each}
 use Rattle.readings.specs.Walk.{Found, Match, Below, exactly, is_gap, ends, limits, firsts, same_match, add_expr, add_nest, named, walk, ruleset_walk, under, trial, top_pairs, depths}
 use Rattle.readings.proofs.Leaves.{exactly-declared, exactly-found, gap-declared, gap-found, span-declared, span-found, limit-declared, limit-found, same-useful}
@@ -44,16 +44,26 @@ same-past : (s : Scene) (l m c x d e : ℕ) → Exactly-at s l c x d → Exactly
 same-past s l m c x d e p q =
     p.past ∙ ap (λ (n : ℕ). n + 1) (same-useful s l m c p.place q.place p.useful p.below q.useful q.below) ∙ sym q.past
 
-pub same_end : {s : Scene} {l m c e f : ℕ} {ps : List Part} {a : Args} → From s l ps c a e → From s m ps c a f → e ≡ f
-same_end finish finish = refl
-same_end {s} {l} {m} {c} (exact {d = d} {x = x} p u) (exact {d = d'} q v) = same_end u (rw (← same-past s l m c x d d' p q) at v)
-same_end (whitespace p u) (whitespace q v) = same_end u v
-same_end {s} (expression {d = d} p i u) (expression {d = d'} q j v) =
+-- what a nested argument leaves: its span's end, and the parts from there on
+abbrev AfterNested : Scene → ℕ → List Part → ℕ → ℕ → Args → Type 0
+AfterNested s l ps c e end = ⊥
+AfterNested s l ps c e (expr f g a) = ⊥
+AfterNested s l ps c e (nest f g t a) = (d : ℕ) × Span s l c d f g × From s l ps d a e
+
+after_nested : {s : Scene} {l c e r : ℕ} {ps : List Part} {a : Args} → From s l (Nested r ∷ ps) c a e → AfterNested s l ps c e a
+after_nested (nested {d = d} p k t i u) = (d, i, u)
+
+pub same-end : {s : Scene} {l m c e f : ℕ} {ps : List Part} {a : Args} → From s l ps c a e → From s m ps c a f → e ≡ f
+same-end finish finish = refl
+same-end {s} {l} {m} {c} (exact {d = d} {x = x} p u) (exact {d = d'} q v) = same-end u (rw (← same-past s l m c x d d' p q) at v)
+same-end (whitespace p u) (whitespace q v) = same-end u v
+same-end {s} (expression {d = d} p i u) (expression {d = d'} q j v) =
     let there : d ≡ d' = omega (arith, i.stops, j.stops) in
-    same_end u (rw (← there) at v)
-same_end {s} (nested {d = d} p k t i u) (nested {d = d'} q n w j v) =
+    same-end u (rw (← there) at v)
+same-end {s} (nested {d = d} p k t i u) q =
+    let (d', j, v) = after_nested q in
     let there : d ≡ d' = omega (arith, i.stops, j.stops) in
-    same_end u (rw (← there) at v)
+    same-end u (rw (← there) at v)
 
 -- ---- what a walk of rulesets lists is what the rules permit
 
@@ -102,7 +112,7 @@ module _ (s : Scene) (law : Lawful s) (below : Below) (ok : Lists s below) (fin 
       let (k', a', t', _, v) = ok.sound r l₂ c g₂ n₂ in
       let pk : k' ≡ k = cc in
       let pa : a' ≡ a = cc in
-      same_end u (rw (pk, pa) at v)
+      same-end u (rw (pk, pa) at v)
 
   -- so to count equal matches once loses none
   kept : (r l c : ℕ) (ps : List Part) {is : List Match} {i : Match} → Gives (each (limits s l c ps) (λ m. below r m c)) is
