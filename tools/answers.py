@@ -130,6 +130,21 @@ def unaliased(body):
         body = body[:m.start()] + m.group(3).lstrip("\n") + rest if False else body[:m.start()].rstrip(" ") + ("" if body[:m.start()].endswith("\n") else " ") + rest
 
 
+def clause_chain(prefix, rest, fields):
+    """A chain to a clause, or to several of them, which stand as right-nested pairs."""
+    if fields and len(fields) > 1 and any(fields):
+        m = re.fullmatch(r"((?:\.1)*)", rest)
+        if m:
+            k = len(rest) // 2
+            left = fields[k:]
+            if len(left) > 1:
+                text = prefix + "." + left[-1]
+                for n in reversed(left[:-1]):
+                    text = f"({prefix}.{n}, {text})"
+                return text
+    return prefix + clause_path(rest, fields)
+
+
 def turn_chain(m, f, requires, said):
     head, parts = m.group(1), m.group(2).split(".")[1:]
     while parts and parts[0] == "before":
@@ -138,7 +153,7 @@ def turn_chain(m, f, requires, said):
         return m.group()
     step, rest = parts[0], "".join("." + p for p in parts[1:])
     if step == "requires":
-        return head + ".requires" + clause_path(rest, requires)
+        return clause_chain(head + ".requires", rest, requires)
     if step == "args" and parts[1:] and parts[1] in f.args:
         return head + ".args." + f.args[parts[1]] + "".join("." + q for q in parts[2:])
     if step in ("args", "ranges", "well_formed", "type_inv", "utf8"):
@@ -168,7 +183,7 @@ def turn_chain(m, f, requires, said):
             rest = "." + m2.group(1) + "." + names[k] + "".join("." + q for q in path[k + 1:]) + rest[m2.end():]
     c = f.clauses.get(norm(step))
     if rest.startswith(".ensures") and c and c.get("fields"):
-        rest = ".ensures" + clause_path(rest[len(".ensures"):], c["fields"])
+        return clause_chain(head + "." + new + ".ensures", rest[len(".ensures"):], c["fields"])
     return head + "." + new + rest
 
 

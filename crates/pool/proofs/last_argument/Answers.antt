@@ -1,0 +1,19 @@
+use Rattle.pool.proofs.Meanings.{last_none, last-kept, last-completed}
+use native.Mathlib.Omega.{arith}
+use borrow.Author.Rules.{rules}
+use Rattle.pool.proofs.last_argument.Reads as reads
+use Rattle.pool.proofs.last_argument.Lts as lts
+use Rattle.pool.proofs.record_at.Reads as record-at-reads
+use Rattle.pool.proofs.last_argument.Goals as goal
+
+-- src/lib.rt:220:9
+pub returns-then-args-eq0 : goal.returns-then-args-eq0
+returns-then-args-eq0 c = record { answers = last_none _ _ _ c.if-args-eq0.true }
+
+-- src/lib.rt:214:1
+pub returns-in-Kept : goal.returns-in-Kept
+returns-in-Kept c = record { answers = last-kept _ _ c.requires.stored _ (omega (arith, c.if-args-eq0.false, c.requires)) c.record_at-record.ensures.answers c.record_at-record.ensures.digits _ (omega (arith, c.if-args-eq0.false)) c.before.«record».given.1 }
+
+-- src/lib.rt:214:1
+pub returns-in-Completed : goal.returns-in-Completed
+returns-in-Completed c = record { answers = last-completed _ _ c.requires.stored _ (omega (arith, c.if-args-eq0.false, c.requires)) c.record_at-record.ensures.answers c.record_at-record.ensures.digits _ (omega (arith, c.if-args-eq0.false)) c.in-Completed.is }

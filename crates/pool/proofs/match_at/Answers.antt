@@ -1,0 +1,14 @@
+use Rattle.pool.proofs.Meanings.{head-kept, head-completed}
+use borrow.Author.Rules.{rules}
+use Rattle.pool.proofs.match_at.Reads as reads
+use Rattle.pool.proofs.match_at.Lts as lts
+use Rattle.pool.proofs.record_at.Reads as record-at-reads
+use Rattle.pool.proofs.match_at.Goals as goal
+
+-- src/lib.rt:188:1
+pub returns-in-Kept : goal.returns-in-Kept
+returns-in-Kept c = record { answers = head-kept _ _ c.requires.stored _ c.requires.m_lt_used c.record_at-record.ensures.answers c.record_at-record.ensures.digits c.in-Kept.is }
+
+-- src/lib.rt:188:1
+pub returns-in-Completed : goal.returns-in-Completed
+returns-in-Completed c = record { answers = head-completed _ _ c.requires.stored _ c.requires.m_lt_used c.record_at-record.ensures.answers c.record_at-record.ensures.digits c.before.«record».given.1 }

@@ -1,0 +1,8 @@
+-- The entry for the cursor, held to the limit.
+use native.Mathlib.Omega.{arith}
+use borrow.Author.Rules.{rules}
+use Rattle.useful.proofs.Limits.{entry-fits, found}
+use Rattle.useful.proofs.next_useful_index.Goals as goal
+
+pub returns : goal.returns
+returns c = record { answers = found _ _ c.requires.lent _ _ c.requires.1 c.least.ensures.answers }
