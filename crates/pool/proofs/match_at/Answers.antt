@@ -11,4 +11,4 @@ returns-in-Kept c = record { answers = head-kept _ _ c.requires.stored _ c.requi
 
 -- src/lib.rt:188:1
 pub returns-in-Completed : goal.returns-in-Completed
-returns-in-Completed c = record { answers = head-completed _ _ c.requires.stored _ c.requires.m_lt_used c.record_at-record.ensures.answers c.record_at-record.ensures.digits c.before.«record».given.1 }
+returns-in-Completed c = record { answers = head-completed _ _ c.requires.stored _ c.requires.m_lt_used c.record_at-record.ensures.answers c.record_at-record.ensures.digits c.in-Completed.is }

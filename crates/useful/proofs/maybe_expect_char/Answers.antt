@@ -7,10 +7,10 @@ use borrow.Author.Rules.{rules}
 use Rattle.useful.proofs.maybe_expect_char.Goals as goal
 
 pub returns-then-eq_ignore_ascii_case : goal.returns-then-eq_ignore_ascii_case
-returns-then-eq_ignore_ascii_case c = record { answers = expect-past _ _ _ (sym (held_same _ _ c.requires.1)) _ _ (told-found _ _ _ c.requires.1 c.next_useful_index-at.ensures.answers) c.if-at-limit.true (sym c.eq_ignore_ascii_case.ensures.answers ∙ c.if-eq_ignore_ascii_case.true) }
+returns-then-eq_ignore_ascii_case c = record { answers = expect-past _ _ _ (sym (held_same _ _ (c.requires.cursor_le_limit, c.requires.limit_in_bounds))) _ _ (told-found _ _ _ (c.requires.cursor_le_limit, c.requires.limit_in_bounds) c.next_useful_index-at.ensures.answers) c.if-at-limit.true (sym c.eq_ignore_ascii_case.ensures.answers ∙ c.if-eq_ignore_ascii_case.true) }
 
 pub returns-else-eq_ignore_ascii_case : goal.returns-else-eq_ignore_ascii_case
-returns-else-eq_ignore_ascii_case c = record { answers = expect-other _ _ _ (sym (held_same _ _ c.requires.1)) _ _ (told-found _ _ _ c.requires.1 c.next_useful_index-at.ensures.answers) c.if-at-limit.true (sym c.eq_ignore_ascii_case.ensures.answers ∙ c.if-eq_ignore_ascii_case.false) }
+returns-else-eq_ignore_ascii_case c = record { answers = expect-other _ _ _ (sym (held_same _ _ (c.requires.cursor_le_limit, c.requires.limit_in_bounds))) _ _ (told-found _ _ _ (c.requires.cursor_le_limit, c.requires.limit_in_bounds) c.next_useful_index-at.ensures.answers) c.if-at-limit.true (sym c.eq_ignore_ascii_case.ensures.answers ∙ c.if-eq_ignore_ascii_case.false) }
 
 pub returns-else-at-limit : goal.returns-else-at-limit
-returns-else-at-limit c = record { answers = expect-end _ _ _ (sym (held_same _ _ c.requires.1)) _ _ (told-found _ _ _ c.requires.1 c.next_useful_index-at.ensures.answers) c.if-at-limit.false }
+returns-else-at-limit c = record { answers = expect-end _ _ _ (sym (held_same _ _ (c.requires.cursor_le_limit, c.requires.limit_in_bounds))) _ _ (told-found _ _ _ (c.requires.cursor_le_limit, c.requires.limit_in_bounds) c.next_useful_index-at.ensures.answers) c.if-at-limit.false }

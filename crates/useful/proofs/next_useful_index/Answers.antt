@@ -5,4 +5,4 @@ use Rattle.useful.proofs.Limits.{entry-fits, found}
 use Rattle.useful.proofs.next_useful_index.Goals as goal
 
 pub returns : goal.returns
-returns c = record { answers = found _ _ c.requires.lent _ _ c.requires.1 c.least.ensures.answers }
+returns c = record { answers = found _ _ c.requires.lent _ _ (c.requires.cursor_le_limit, c.requires.limit_in_bounds) c.least.ensures.answers }

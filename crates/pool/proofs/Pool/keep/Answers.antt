@@ -16,4 +16,4 @@ returns-then-used-eq-ROOM c = record { answers = taken-full _ _ _ c.if-used-eq-R
 pub returns : goal.returns
 returns c = record { answers =
     taken_next _ _ _ c.requires.store_len c.requires.used_le_room c.if-used-eq-ROOM.false c.requires.argument_fits _
-    (ap (λ k. 2 * (c.args.prev + 8192 * (c.args.argument.start + 128 * (c.args.argument.end + 128 * (c.args.count + 128 * k))))) c.code_of_lem.ensures) _ c.more.ensures }
+    (ap (λ k. 2 * (c.args.prev + 8192 * (c.args.argument.start + 128 * (c.args.argument.end + 128 * (c.args.count + 128 * k))))) c.code_of-code.ensures) _ c.more.ensures }
