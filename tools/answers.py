@@ -162,6 +162,7 @@ def turn_chain(m, f, requires, said):
         hit = f.arms.get((norm(step), tuple(parts[1:k])))
         if hit:
             return head + "." + hit[0] + "." + hit[1] + "".join("." + q for q in parts[k:])
+    rest = rest.replace(".type-inv", ".type_inv")
     p = f.steps.get(norm(step))
     if p is None:
         said.append(f"no step {step}")

@@ -1,0 +1,26 @@
+use borrow.Author.Rules.{rules}
+use mathlib.Core.Path.{◌≡◌, refl}
+use mathlib.Core.List.{[]}
+use Prim.Native.Nat.{◌-◌, ◌≤◌}
+use native.Mathlib.Omega.{arith}
+use lib.ListN.{length, length-set}
+use Rattle.defs.proofs.Words.{parts_within}
+use Rattle.readings.proofs.Records.{few-records}
+use Rattle.leads.specs.Leads.{Led, Between}
+use Rattle.leads.proofs.Laying.{led-none, between_more, between-all, span_key}
+use Rattle.leads.proofs.lead_between.Goals as goal
+
+pub overflow_cast-rule : goal.overflow_cast-rule
+overflow_cast-rule c = omega (arith, c.loop-rule-test.true, c.requires.to_bound, few-records _ [] [] c.requires.table_value)
+
+pub prefix_key-requires : goal.prefix_key-requires
+prefix_key-requires c = parts_within _ _ _ c.parts_of-parts.ensures.answers
+
+pub offset_bounds-leads-here : goal.offset_bounds-leads-here
+offset_bounds-leads-here c = omega (arith, c.loop-rule-test.true, c.requires.to_bound, few-records _ [] [] c.requires.table_value)
+
+pub bounds-leads-here : goal.bounds-leads-here
+bounds-leads-here c = omega (arith, c.loop-rule-test.true, c.requires.to_bound, few-records _ [] [] c.requires.table_value, c.requires.leads_len, c.loop-rule.invariant.1.0)
+
+pub loop-rule-preserved : goal.loop-rule-preserved
+loop-rule-preserved c = (between_more c.loop-rule.invariant.0 c.loop-rule.invariant.1.1.0 (omega (arith, c.loop-rule-test.true, c.requires.to_bound, few-records _ [] [] c.requires.table_value, c.requires.leads_len, c.loop-rule.invariant.1.0)) (span_key _ _ _ c.parts_of-parts.ensures.answers c.prefix_key.ensures.answers), (simp length-set c.loop-rule.invariant.1.0, (omega (arith, c.loop-rule.invariant.1.1.0), omega (arith, c.loop-rule-test.true))))

@@ -1,0 +1,8 @@
+-- An end past the table is the table's: no words stand between them.
+use native.Mathlib.Omega.{arith}
+use borrow.Author.Rules.{rules}
+use Rattle.lookahead.proofs.Ahead.{parts-past}
+use Rattle.lookahead.proofs.within.Goals as goal
+
+pub returns-clause-by_index : goal.returns-clause-by_index
+returns-clause-by_index c = parts-past _ _ c.if-end-table.false
