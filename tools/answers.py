@@ -39,6 +39,7 @@ def blocks_of(text):
 class Function:
     def __init__(self, it, names):
         self.it = it
+        self.cyclic = False
         self.steps = {norm(p[2][0]): p for p in it["places"] if p[2][0]}
         self.clauses = {}
         for p, c in zip(it["places"], it["clauses"]):
@@ -152,6 +153,10 @@ def turn_chain(m, f, requires, said):
     if not parts:
         return m.group()
     step, rest = parts[0], "".join("." + p for p in parts[1:])
+    if step == "requires" and f.cyclic and parts[1:2] in (["0"], ["1"]):
+        if parts[1] == "0":
+            return head + ".decreases" + "".join("." + q for q in parts[2:])
+        return clause_chain(head + ".requires", "".join("." + q for q in parts[2:]), requires)
     if step == "requires":
         return clause_chain(head + ".requires", rest, requires)
     if step == "args" and parts[1:] and parts[1] in f.args:
@@ -279,9 +284,14 @@ def main():
     names = json.load(open(names_at, encoding="utf-8"))
     name = os.path.basename(os.path.abspath(crate))
     functions = {}
+    cycles = {}
     for module, it in names.items():
         if ".Lts" in module:
-            functions[module.split(".", 1)[1].rsplit(".Lts", 1)[0]] = Function(it, names)
+            where, _, member = module.split(".", 1)[1].rpartition(".Lts")
+            functions[where] = Function(it, names)
+            if where.startswith("+"):
+                functions[where].cyclic = True
+                cycles.setdefault(where, {})[member.lstrip("-")] = functions[where]
     opened = None
     if open_log is not None:
         opened = {}
@@ -302,6 +312,7 @@ def main():
         requires = f.pre if f.pre is not None else requires_of(crate, fn)
         uses, invariants, answers, own, opening = [], [], [], [], []
         pending = {}
+        dropped = set()
         blocks = blocks_of(text)
         head_comment = []
         for i, (comment, lines) in enumerate(blocks):
@@ -309,12 +320,19 @@ def main():
             if first.startswith("use "):
                 if i == 0:
                     head_comment = comment
-                if ".Tie as tie" in first or ".Statement.{statement}" in first:
+                if ".Tie as tie" in first or "{statement}" in first:
+                    continue
+                if fn.startswith("+") and re.search(r"\.(Reads|Kinds) as |Tie\.\{close\}|borrow\.Fn\.", first):
                     continue
                 uses.append(first)
                 continue
             if first.startswith(("unfolding ", "open ")):
                 opening.append((comment, lines))
+                continue
+            m = re.match(r"(\S+) : \(t : ℕ\) → ([\w-]+)\.Need-(\S+)", first)
+            if m and fn.startswith("+"):
+                pending[m.group(1)] = ("goal", m.group(3), comment, opening, m.group(2))
+                opening = []
                 continue
             m = re.match(r"(?:abbrev )?(?:pub )?(\S+) : tie\.(\S+)", first)
             if m and m.group(2).startswith(("invariant-", "decreases-")):
@@ -325,6 +343,13 @@ def main():
                 opening = []
                 continue
             word = first.split()[0]
+            if fn.startswith("+"):
+                m = re.match(r"abbrev (\S+) : .*(Measures|In |\.Claims)", first)
+                if m:
+                    dropped.add(m.group(1))
+                    continue
+                if word in dropped:
+                    continue
             if word in pending:
                 kind = pending[word]
                 body = "\n".join(lines)
@@ -335,7 +360,13 @@ def main():
                 else:
                     un = kind[3] + opening
                     opening = []
-                    answers.append((kind[1], params, rhs, kind[2], un))
+                    member = None
+                    if len(kind) > 4:
+                        for u in uses:
+                            mm = re.match(r"use .*\.Lts-(\S+) as " + re.escape(kind[4]) + "$", u)
+                            if mm:
+                                member = cycles[fn][mm.group(1)]
+                    answers.append((kind[1], params, rhs, kind[2], un, member))
                 continue
             if re.match(r"pub \S*[-_]spec :", first) or re.match(r"\S*[-_]spec =", first):
                 continue
@@ -366,11 +397,16 @@ def main():
             inv_text.append("\n".join(comment + [f"abbrev pub {new} : goal.{new}", f"{new} l ={body}"]))
         if inv_text:
             with open(os.path.join(target, "Invariants.antt"), "w", encoding="utf-8") as o:
-                o.write("\n".join(head_comment + uses + [f"use {goal_module}.Given as goal", ""]) + "\n" + "\n\n".join(inv_text) + "\n")
+                o.write("\n".join(head_comment + [u for u in uses if ".Lts-" not in u] + [f"use {goal_module}.Given as goal", ""]) + "\n" + "\n\n".join(inv_text) + "\n")
         ans_text = []
         done = set()
-        for old, params, rhs, comment, un in answers:
+        whole = f
+        for old, params, rhs, comment, un, member in answers:
+            f = member or whole
+            requires = f.pre if f.pre is not None else requires
             new = f.goal(old)
+            if new is not None and member is not None:
+                new = (f.it.get("stem") or "") + new
             if new is None:
                 said.append(f"no goal {old}")
                 continue
@@ -399,7 +435,7 @@ def main():
                 said.append(f"no old answer for {g}")
         own_text = ["\n".join(cm + ["\n".join(ls) for _, ls in op] + ls) for cm, op, ls in own]
         if ans_text:
-            text = "\n".join(([] if inv_text else head_comment) + uses + [f"use {goal_module}.Goals as goal", ""]) + "\n"
+            text = "\n".join(([] if inv_text else head_comment) + [u for u in uses if ".Lts-" not in u] + [f"use {goal_module}.Goals as goal", ""]) + "\n"
             joined = []
             for i, t in enumerate(own_text):
                 joined.append(t)

@@ -1,0 +1,14 @@
+use borrow.Author.Rules.{rules}
+use mathlib.Core.Path.{◌≡◌, refl}
+use Prim.Native.Nat.{◌+◌, ◌*◌, ◌-◌, ◌≤◌}
+use native.Mathlib.Omega.{arith}
+use lib.ListN.{length, get_or, length-set}
+use Rattle.prefix_order.proofs.Entries.{Laying, laying-none, laying-turn, laying-all, entry-is}
+use Rattle.leads.proofs.Laying.{part_end, placed-key}
+use Rattle.prefix_order.proofs.lay_entries.Goals as goal
+
+pub prefix_key-requires : goal.prefix_key-requires
+prefix_key-requires c = part_end _ (c.requires.placed.each c.loop-i.i c.loop-i-test.true) refl refl
+
+pub loop-i-preserved : goal.loop-i-preserved
+loop-i-preserved c = (laying-turn _ c.loop-i.invariant.0 (omega (arith, c.requires.fits)) (omega (arith, c.requires.room, c.loop-i.invariant.1.0)) (entry-is _ _ (placed-key _ (c.requires.placed.each c.loop-i.i c.loop-i-test.true) refl refl c.prefix_key.ensures.answers)), (simp length-set c.loop-i.invariant.1.0, omega arith))

@@ -1,0 +1,13 @@
+-- What is laid is sorted where it stands.
+use borrow.Author.Rules.{rules}
+use mathlib.Core.Path.{sym}
+use native.Mathlib.Omega.{arith}
+use lib.Seq.{length-take-le}
+use Rattle.prefix_order.proofs.Entries.{few-asked, lay-asked, sorted_all}
+use Rattle.prefix_order.proofs.order_rules.Goals as goal
+
+pub lay_entries-requires : goal.lay_entries-requires
+lay_entries-requires c = lay-asked c.requires
+
+pub returns : goal.returns
+returns c = record { answers = sorted_all c.requires c.lay_entries.new.order (omega (arith, few-asked c.requires, c.requires.room, c.lay_entries.auto.order)) c.lay_entries.ensures c.sort.ensures.answers }
