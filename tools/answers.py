@@ -54,7 +54,7 @@ class Function:
         for p in it["places"]:
             if p[2][0]:
                 self.parts[norm(p[2][0])].update({a: b for a, b in p[4]})
-        self.loops = {norm(l[0][0]): l for l in it["loops"]}
+        self.loops = {norm(l[0][0]): (l, ch) for l, ch in zip(it["loops"], it["changed"])}
         self.typed = {}
         for place in it["typed"]:
             for var, step in place:
@@ -191,6 +191,15 @@ def turn_chain(m, f, requires, said):
     if rest.startswith(".ensures") and c and c.get("fields"):
         return clause_chain(head + "." + new + ".ensures", rest[len(".ensures"):], c["fields"])
     return head + "." + new + rest
+
+
+def member_of(alias, uses, fn, cycles):
+    """The function of a cycle that an alias of the old file stands for."""
+    for u in uses:
+        m = re.match(r"use .*\.Lts-(\S+) as " + re.escape(alias) + "$", u)
+        if m:
+            return cycles[fn][m.group(1)]
+    return None
 
 
 def parts_of(body):
@@ -334,10 +343,11 @@ def main():
                 pending[m.group(1)] = ("goal", m.group(3), comment, opening, m.group(2))
                 opening = []
                 continue
-            m = re.match(r"(?:abbrev )?(?:pub )?(\S+) : tie\.(\S+)", first)
-            if m and m.group(2).startswith(("invariant-", "decreases-")):
-                pending[m.group(1)] = ("inv", m.group(2), comment)
+            m = re.match(r"(?:abbrev )?(?:pub )?(\S+) : ([\w-]+)\.((?:invariant|decreases)-\S+)", first)
+            if m:
+                pending[m.group(1)] = ("inv", m.group(3), comment, m.group(2))
                 continue
+            m = re.match(r"(?:abbrev )?(?:pub )?(\S+) : tie\.(\S+)", first)
             if m and m.group(2).startswith("Need-"):
                 pending[m.group(1)] = ("goal", m.group(2)[5:].split()[0], comment, opening)
                 opening = []
@@ -356,7 +366,7 @@ def main():
                 lhs, _, rhs = body.partition("=")
                 params = lhs.split()[1:]
                 if kind[0] == "inv":
-                    invariants.append((kind[1], params, rhs, kind[2]))
+                    invariants.append((kind[1], params, rhs, kind[2], kind[3]))
                 else:
                     un = kind[3] + opening
                     opening = []
@@ -378,22 +388,30 @@ def main():
         loops = {}
         # invariants: the loop's name in the new names is read off the goals
         inv_text = []
-        for old, params, rhs, comment in invariants:
+        for old, params, rhs, comment, alias in invariants:
             new = None
             kind = "invariant" if old.startswith("invariant-") else "decreases"
             tail = old[len(kind) + 1:]
-            loop = f.loops.get(norm(tail))
-            new_loop = loop[0][1] if loop else tail
+            member = member_of(alias, uses, fn, cycles) or f
+            loop = member.loops.get(norm(tail))
+            new_loop = ((member.it.get("stem") or "") if member is not f else "") + (loop[0][0][1] if loop else tail)
             new = f"{kind}-{new_loop}"
             body = rhs
-            live = [q for q in set(params) if q != "_"]
-            if live:
-                each = "|".join(re.escape(q) for q in sorted(live, key=len, reverse=True))
-                body = re.sub(
-                    r"(?<![\w.'₀-])(" + each + r")(?![\w'₀-])",
-                    lambda m: "l.initial." + m.group(1).rstrip("₀") if m.group(1).endswith("₀") else "l." + m.group(1),
-                    body,
-                )
+            to = {}
+            if loop:
+                (_, names_), changed = loop
+                after = [n for n, ch in zip(names_, changed) if ch]
+                if len(params) == len(names_) + len(after):
+                    for q, n, ch in zip(params, names_, changed):
+                        to[q] = ("l.initial." if ch else "l.") + n
+                    for q, n in zip(params[len(names_):], after):
+                        to[q] = "l." + n
+            if not to:
+                to = {q: ("l.initial." + q.rstrip("₀") if q.endswith("₀") else "l." + q) for q in params}
+            to.pop("_", None)
+            if to:
+                each = "|".join(re.escape(q) for q in sorted(to, key=len, reverse=True))
+                body = re.sub(r"(?<![\w.'₀-])(" + each + r")(?![\w'₀-])", lambda m: to[m.group(1)], body)
             inv_text.append("\n".join(comment + [f"abbrev pub {new} : goal.{new}", f"{new} l ={body}"]))
         if inv_text:
             with open(os.path.join(target, "Invariants.antt"), "w", encoding="utf-8") as o:

@@ -1,0 +1,56 @@
+-- The cycle of the three functions. The visits left fall: 2 * visits for the rule walk, one more for the two steps, which a
+-- rule walk calls after its visit. Each answer is a law of the files beside, at the place where the code has come.
+use mathlib.Core.Path.{refl, ap, ◌∙◌}
+use Prim.Native.Nat.{ℕ, ◌+◌, ◌-◌, ◌*◌, ◌<◌}
+use native.Mathlib.Omega.{arith}
+use lib.ListN.{length}
+use borrow.Author.Rules.{rules}
+use Rattle.walk.proofs.Places.{Along, along-by, along-start, along-stored, along-small, along-ended, along-spent, along-end, along-exact, along-no-exact, along-whitespace, along-no-whitespace, along-expression, along-nested, step-ready, step-stands, ruleset-few}
+use Rattle.walk.proofs.Exprs.{ExprDid, expr-start, expr-end, expr-fits, expr-full, expr-counted, expr-stands, expr-ready, expr-again, expr-halt, ends-three}
+use Rattle.walk.proofs.Rules.{RulesDid, LimitsDid, starts-long, starts-ordered, starts-few, rule-ready, rule-stands, rules-again, rules-stop, rules-skip, rules-spent, lead-there, rules-start, limits-start, limits-again, limits-stop, limits-two, inner-within}
+use Rattle.walk.proofs.Nests.{NestDid, nest-start, nest-skip, inner-counts-first, nest-fits, nest-member, nest-full, nest-counted, nest-stands, nest-ready, nest-again, nest-halt, nest-used, nested-deep, nested-stop, nested-grown, nested-since, nested-within, nested-below, nested-halt, nested-done}
+use Rattle.walk.proofs.+match_with_expr_match_with_nested_ruledef_match_with_rule.Given as goal
+
+abbrev pub invariant-match_with_expr-loop-i : goal.invariant-match_with_expr-loop-i
+invariant-match_with_expr-loop-i l =
+    ExprDid l.table l.line l.sheet l.place l.walker.limit l.begins l.ends l.initial.left l.initial.has.used l.initial.store l.i l.left l.has.used l.store
+
+abbrev pub decreases-match_with_expr-loop-i : goal.decreases-match_with_expr-loop-i
+decreases-match_with_expr-loop-i l = l.ends.count - l.i
+
+abbrev pub invariant-match_with_nested_ruledef-loop-rule : goal.invariant-match_with_nested_ruledef-loop-rule
+invariant-match_with_nested_ruledef-loop-rule l =
+    RulesDid l.table l.line l.sheet l.depth l.set l.inner l.count l.initial.left l.initial.has.used l.initial.store l.rule l.left l.has.used l.store
+
+abbrev pub decreases-match_with_nested_ruledef-loop-rule : goal.decreases-match_with_nested_ruledef-loop-rule
+decreases-match_with_nested_ruledef-loop-rule l = l.count - l.rule
+
+abbrev pub invariant-match_with_nested_ruledef-loop-pass : goal.invariant-match_with_nested_ruledef-loop-pass
+invariant-match_with_nested_ruledef-loop-pass l =
+    LimitsDid l.table l.line l.sheet l.depth l.set l.walker.cursor l.limits l.initial.left l.initial.has.used l.initial.store l.pass l.left l.has.used l.store
+
+abbrev pub decreases-match_with_nested_ruledef-loop-pass : goal.decreases-match_with_nested_ruledef-loop-pass
+decreases-match_with_nested_ruledef-loop-pass l = l.limits.count - l.pass
+
+abbrev pub invariant-match_with_nested_ruledef-loop-m : goal.invariant-match_with_nested_ruledef-loop-m
+invariant-match_with_nested_ruledef-loop-m l =
+    NestDid l.table l.line l.sheet l.place l.walker.limit l.begins l.first l.initial.left l.initial.has.used l.initial.store l.m l.left l.has.used l.store
+
+abbrev pub decreases-match_with_nested_ruledef-loop-m : goal.decreases-match_with_nested_ruledef-loop-m
+decreases-match_with_nested_ruledef-loop-m l = l.last - l.m
+
+abbrev pub invariant-loop-left : goal.invariant-loop-left
+invariant-loop-left l =
+    Along l.table l.line l.sheet l.place l.initial.here l.end l.pool.used l.initial.store l.initial.left l.initial.at l.store l.left l.at (l.exact + l.passed) l.here
+
+abbrev pub decreases-loop-left : goal.decreases-loop-left
+decreases-loop-left l = l.left
+
+abbrev pub decreases-match_with_expr : goal.decreases-match_with_expr
+decreases-match_with_expr l = 2 * l.visits + 1
+
+abbrev pub decreases-match_with_nested_ruledef : goal.decreases-match_with_nested_ruledef
+decreases-match_with_nested_ruledef l = 2 * l.visits + 1
+
+abbrev pub decreases-match_with_rule : goal.decreases-match_with_rule
+decreases-match_with_rule l = 2 * l.visits
