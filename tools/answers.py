@@ -392,9 +392,9 @@ def main():
             new = None
             kind = "invariant" if old.startswith("invariant-") else "decreases"
             tail = old[len(kind) + 1:]
-            member = member_of(alias, uses, fn, cycles) or f
-            loop = member.loops.get(norm(tail))
-            new_loop = ((member.it.get("stem") or "") if member is not f else "") + (loop[0][0][1] if loop else tail)
+            member = member_of(alias, uses, fn, cycles)
+            loop = (member or f).loops.get(norm(tail))
+            new_loop = ((member.it.get("stem") or "") if member else "") + (loop[0][0][1] if loop else tail)
             new = f"{kind}-{new_loop}"
             body = rhs
             to = {}

@@ -1,7 +1,7 @@
 -- The cycle of the three functions. The visits left fall: 2 * visits for the rule walk, one more for the two steps, which a
 -- rule walk calls after its visit. Each answer is a law of the files beside, at the place where the code has come.
 use mathlib.Core.Path.{refl, ap, ◌∙◌}
-use Prim.Native.Nat.{ℕ, ◌+◌, ◌-◌, ◌*◌, ◌<◌}
+use Prim.Native.Nat.{◌+◌, ◌-◌, ◌*◌}
 use native.Mathlib.Omega.{arith}
 use lib.ListN.{length}
 use borrow.Author.Rules.{rules}
@@ -39,12 +39,12 @@ invariant-match_with_nested_ruledef-loop-m l =
 abbrev pub decreases-match_with_nested_ruledef-loop-m : goal.decreases-match_with_nested_ruledef-loop-m
 decreases-match_with_nested_ruledef-loop-m l = l.last - l.m
 
-abbrev pub invariant-loop-left : goal.invariant-loop-left
-invariant-loop-left l =
+abbrev pub invariant-match_with_rule-loop-left : goal.invariant-match_with_rule-loop-left
+invariant-match_with_rule-loop-left l =
     Along l.table l.line l.sheet l.place l.initial.here l.end l.pool.used l.initial.store l.initial.left l.initial.at l.store l.left l.at (l.exact + l.passed) l.here
 
-abbrev pub decreases-loop-left : goal.decreases-loop-left
-decreases-loop-left l = l.left
+abbrev pub decreases-match_with_rule-loop-left : goal.decreases-match_with_rule-loop-left
+decreases-match_with_rule-loop-left l = l.left
 
 abbrev pub decreases-match_with_expr : goal.decreases-match_with_expr
 decreases-match_with_expr l = 2 * l.visits + 1
