@@ -1,4 +1,4 @@
-/* The matching core of customasm, with a proof of every function. Link libtholdrimash.a (`rt staticlib tholdrimash`).
+/* The matching core of customasm, with a proof of every function. Link libtholdrimash.a (`tools/build tholdrimash`).
  * docs/MANUAL.md has all of it at length: every term below, a worked example of each step, and what to do about each number.
  *
  * Every function takes any memory that its pointers and lengths describe (a length counts items, not bytes), ends, and

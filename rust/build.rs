@@ -18,7 +18,7 @@ fn main() {
     if !folder.join(ARCHIVE).is_file() {
         refuse(&format!(
             "there is no {ARCHIVE} in {}\n\
-             Run `rt staticlib tholdrimash` at the repository's root, or set {FOLDER}.",
+             Run `tools/build tholdrimash` at the repository's root, or set {FOLDER}.",
             folder.display()
         ));
     }

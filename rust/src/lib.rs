@@ -103,8 +103,9 @@
 //! the grammar that [`sheet_of`] goes by. Where expressions are others, the caller makes a sheet of
 //! them: [`match_line`](match_line#a-sheet-of-ones-own) says how.
 //!
-//! The crate links libtholdrimash.a, for x86-64 Linux. `rt staticlib tholdrimash` writes it, and
-//! THOLDRIMASH_LIB names its folder where that is not the repository's target/staticlib.
+//! The crate links libtholdrimash.a, for x86-64 Linux. `tools/build tholdrimash` in the repository
+//! writes it, and THOLDRIMASH_LIB names its folder where that is not the repository's
+//! target/staticlib.
 #![deny(missing_docs, unsafe_code)]
 
 mod expressions;

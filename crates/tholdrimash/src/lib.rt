@@ -1,6 +1,6 @@
-// The C interface: `include/tholdrimash.h` declares these functions, and documents every number and field. Each is one call
-// of `matcher`, `resolver`, `listing`, `expressions` or `program`, with the answer's number and fields as a C struct; a slice
-// is a pointer and a length.
+// The interface: each function is one call of `matcher`, `resolver`, `listing`, `expressions` or `program`, with the answer's
+// number and fields as a C struct. `tholdrimash_c` exports them to C, and `include/tholdrimash.h` documents every number and
+// field.
 #![tactic(auto)]
 
 ghost use Rattle.std.specs.Prelude.{◌≡◌, not, true, List, ℕ, ◌≤◌, eqb, length};
@@ -74,8 +74,7 @@ fn fields(answer: Answer) -> TholdrimashAnswer
 }
 
 // The full scan.
-#[unsafe(no_mangle)]
-pub extern "C" fn tholdrimash_match(
+pub fn tholdrimash_match(
     table: &[u16],
     line: &[u8],
     sheet: &[u8],
@@ -90,8 +89,7 @@ pub extern "C" fn tholdrimash_match(
 }
 
 // Prefix lookup.
-#[unsafe(no_mangle)]
-pub extern "C" fn tholdrimash_lookup(
+pub fn tholdrimash_lookup(
     table: &[u16],
     line: &[u8],
     sheet: &[u8],
@@ -133,8 +131,7 @@ fn chosen_of(number: u32, count: usize) -> TholdrimashSelection
 }
 
 // Size selection. `last` is 0 while guessing is allowed, else this is the last pass.
-#[unsafe(no_mangle)]
-pub extern "C" fn tholdrimash_select(
+pub fn tholdrimash_select(
     outcomes: &mut [u32],
     last: u32,
     chosen: &mut [u16],
@@ -158,8 +155,7 @@ fn read_fields(answer: ReadAnswer) -> TholdrimashAnswer
 }
 
 // A rule table from its listing.
-#[unsafe(no_mangle)]
-pub extern "C" fn tholdrimash_read_table(text: &[u8], table: &mut [u16]) -> TholdrimashAnswer
+pub fn tholdrimash_read_table(text: &[u8], table: &mut [u16]) -> TholdrimashAnswer
     ensures answers { ReadCall text.now table.old (told result table.new) }
 {
     read_fields(listing::reading::read_table(text, table))
@@ -177,8 +173,7 @@ fn write_fields(answer: WriteAnswer) -> TholdrimashAnswer
 }
 
 // A rule table's listing.
-#[unsafe(no_mangle)]
-pub extern "C" fn tholdrimash_write_table(table: &[u16], text: &mut [u8]) -> TholdrimashAnswer
+pub fn tholdrimash_write_table(table: &[u16], text: &mut [u8]) -> TholdrimashAnswer
     ensures answers { told result text.new ≡ write_call table.now text.old }
 {
     write_fields(listing::writing::write_table(table, text))
@@ -196,8 +191,7 @@ fn fill_fields(answer: Filling) -> TholdrimashAnswer
 }
 
 // The sheet of a line.
-#[unsafe(no_mangle)]
-pub extern "C" fn tholdrimash_fill_sheet(line: &[u8], sheet: &mut [u8]) -> TholdrimashAnswer
+pub fn tholdrimash_fill_sheet(line: &[u8], sheet: &mut [u8]) -> TholdrimashAnswer
     ensures answers { FillCall line.now sheet.old (told result sheet.new) }
     ensures fits { FilledFits line.now (told result sheet.new) }
 {
@@ -216,8 +210,7 @@ fn program_fields(answer: ProgramAnswer) -> TholdrimashAnswer
 }
 
 // A whole program by full scan.
-#[unsafe(no_mangle)]
-pub extern "C" fn tholdrimash_match_program(
+pub fn tholdrimash_match_program(
     table: &[u16],
     text: &[u8],
     ends: &[u32],
@@ -234,8 +227,7 @@ pub extern "C" fn tholdrimash_match_program(
 }
 
 // A whole program by prefix lookup.
-#[unsafe(no_mangle)]
-pub extern "C" fn tholdrimash_lookup_program(
+pub fn tholdrimash_lookup_program(
     table: &[u16],
     text: &[u8],
     ends: &[u32],
