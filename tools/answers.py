@@ -15,6 +15,7 @@ import sys
 
 norm = lambda it: re.sub(r"[-_]", "", it).lower()
 KNOWN = ("overflow", "nonzero")
+newer = lambda it: re.sub(r"(?<=\d)-holds(?=-\d|$)|(?<=loop)-holds", "-init", re.sub(r"(loop\d*)-again", r"\1-preserved", re.sub(r"(loop\d*)-less", r"\1-smaller", it)))
 
 
 def blocks_of(text):
@@ -71,6 +72,7 @@ class Function:
                         self.arms[norm(step), tuple(path)] = (arm[0], field)
 
     def fields(self, old):
+        old = newer(old)
         n = norm(old)
         if n in self.asked:
             return self.asked[n]
@@ -80,6 +82,7 @@ class Function:
         return None
 
     def goal(self, old):
+        old = newer(old)
         n = norm(old)
         if n in self.goals:
             return self.goals[n]
