@@ -2,10 +2,6 @@
 use mathlib.Core.Path.{◌≡◌}
 use mathlib.Core.Bool.{false}
 use Prim.Native.Nat.{◌+◌, ◌-◌, ◌≤◌}
-use native.Mathlib.Omega.{arith}
-use borrow.Author.Rules.{rules}
-use Rattle.plain.proofs.Tried.{none_between, one-between, fewer-between, both-between}
-use Rattle.defs.specs.Table.{word_at}
 use Rattle.acceptance.proofs.Eights.{PartsFrom}
 use Rattle.acceptance.proofs.eight_odd.Given as goal
 

@@ -1,11 +1,7 @@
-use mathlib.Core.Path.{◌≡◌, sym}
-use mathlib.Core.Bool.{false, true≢false}
-use Prim.Native.Nat.{◌-◌}
 use native.Mathlib.Omega.{arith}
-use borrow.Author.Rules.{rules}
 use borrow.Author.Tests.{not-true}
-use Rattle.plain.proofs.Tried.{none_between, fewer-between, both-between}
-use Rattle.acceptance.proofs.Eights.{PartsFrom, parts-tried}
+use Rattle.plain.proofs.Tried.{fewer-between, both-between}
+use Rattle.acceptance.proofs.Eights.{parts-tried}
 use Rattle.acceptance.proofs.eights_fit.Goals as goal
 
 pub returns : goal.returns

@@ -1,12 +1,8 @@
 -- The loop's invariant: if nothing was odd, every word from the first part to here is a part.
-use mathlib.Core.Path.{◌≡◌, sym}
-use mathlib.Core.Bool.{false, true≢false}
+use mathlib.Core.Path.{◌≡◌}
+use mathlib.Core.Bool.{false}
 use Prim.Native.Nat.{◌-◌}
-use native.Mathlib.Omega.{arith}
-use borrow.Author.Rules.{rules}
-use borrow.Author.Tests.{not-true}
-use Rattle.plain.proofs.Tried.{none_between, fewer-between, both-between}
-use Rattle.acceptance.proofs.Eights.{PartsFrom, parts-tried}
+use Rattle.acceptance.proofs.Eights.{PartsFrom}
 use Rattle.acceptance.proofs.eights_fit.Given as goal
 
 abbrev pub invariant-loop-at : goal.invariant-loop-at

@@ -1,12 +1,6 @@
-use borrow.Author.Rules.{rules}
-use mathlib.Core.Path.{◌≡◌}
-use mathlib.Core.Bool.{true}
-use Prim.Native.Nat.{◌-◌}
 use native.Mathlib.Omega.{arith}
-use lib.Dec.{leb}
-use Rattle.plain.specs.Below.{every_below}
 use Rattle.plain.proofs.Below.{every-none, every-step}
-use Rattle.defs.specs.Table.{flag_at, flags_fit}
+use Rattle.defs.specs.Table.{flags_fit}
 use Rattle.acceptance.proofs.Check.{all-passed, one-failed, flag-fits, flag-fails}
 use Rattle.acceptance.proofs.flags_fit.Goals as goal
 

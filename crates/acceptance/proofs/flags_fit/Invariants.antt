@@ -1,14 +1,10 @@
 -- The loop's invariant: every flag passed is 0 or 1.
-use borrow.Author.Rules.{rules}
 use mathlib.Core.Path.{◌≡◌}
 use mathlib.Core.Bool.{true}
 use Prim.Native.Nat.{◌-◌}
-use native.Mathlib.Omega.{arith}
 use lib.Dec.{leb}
 use Rattle.plain.specs.Below.{every_below}
-use Rattle.plain.proofs.Below.{every-none, every-step}
-use Rattle.defs.specs.Table.{flag_at, flags_fit}
-use Rattle.acceptance.proofs.Check.{all-passed, one-failed, flag-fits, flag-fails}
+use Rattle.defs.specs.Table.{flag_at}
 use Rattle.acceptance.proofs.flags_fit.Given as goal
 
 abbrev pub invariant-loop-set : goal.invariant-loop-set

@@ -1,7 +1,6 @@
 -- Few parts, or the parameters counted.
 use native.Mathlib.Omega.{arith}
-use borrow.Author.Rules.{rules}
-use Rattle.acceptance.proofs.Check.{few-parts, parameters-few}
+use Rattle.acceptance.proofs.Check.{few-parts}
 use Rattle.acceptance.proofs.has_few_parameters.Goals as goal
 
 pub returns-then-field_at-le-MOST_PARAMETERS : goal.returns-then-field_at-le-MOST_PARAMETERS

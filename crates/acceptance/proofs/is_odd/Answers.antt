@@ -1,5 +1,4 @@
 -- `is_odd` meets its contract: what is not odd is a part, by the law of the joined comparisons.
-use borrow.Author.Rules.{rules}
 use Rattle.acceptance.proofs.Eights.{not-odd}
 use Rattle.acceptance.proofs.is_odd.Goals as goal
 

@@ -1,9 +1,5 @@
-use borrow.Author.Rules.{rules}
-use mathlib.Core.Path.{◌≡◌}
-use Prim.Native.Nat.{◌+◌, ◌-◌, ◌≤◌}
 use native.Mathlib.Omega.{arith}
-use lib.ListN.{length}
-use Rattle.acceptance.proofs.Check.{parameters_from, parameters-whole, parameters-none, parameter-here, parameter-other}
+use Rattle.acceptance.proofs.Check.{parameters-whole, parameters-none, parameter-here, parameter-other}
 use Rattle.defs.proofs.Words.{parts_within}
 use Rattle.acceptance.proofs.parameters_of.Goals as goal
 

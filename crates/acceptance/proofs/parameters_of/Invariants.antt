@@ -1,11 +1,8 @@
 -- The loop's invariant: the parameters counted and those still ahead are the rule's.
-use borrow.Author.Rules.{rules}
 use mathlib.Core.Path.{◌≡◌}
 use Prim.Native.Nat.{◌+◌, ◌-◌, ◌≤◌}
-use native.Mathlib.Omega.{arith}
 use lib.ListN.{length}
-use Rattle.acceptance.proofs.Check.{parameters_from, parameters-whole, parameters-none, parameter-here, parameter-other}
-use Rattle.defs.proofs.Words.{parts_within}
+use Rattle.acceptance.proofs.Check.{parameters_from}
 use Rattle.acceptance.proofs.parameters_of.Given as goal
 
 abbrev pub invariant-loop-at : goal.invariant-loop-at

@@ -1,12 +1,7 @@
-use borrow.Author.Rules.{rules}
-use mathlib.Core.Path.{◌≡◌, sym}
-use mathlib.Core.Bool.{true}
-use Prim.Native.Nat.{◌-◌}
+use mathlib.Core.Path.{sym, ◌∙◌}
 use native.Mathlib.Omega.{arith}
-use Rattle.plain.specs.Below.{every_below}
 use Rattle.plain.proofs.Below.{every-none, every-step}
-use Rattle.plain.proofs.Calls.{refused, passed}
-use Rattle.defs.specs.Table.{rulesets_in, part_word_at, is_part, parts_fit}
+use Rattle.defs.specs.Table.{parts_fit}
 use Rattle.acceptance.proofs.Check.{all-passed, one-failed, part-tested}
 use Rattle.acceptance.proofs.parts_fit.Goals as goal
 
@@ -15,10 +10,10 @@ loop-k-init c = every-none _
 
 pub returns-then-not-is_part : goal.returns-then-not-is_part
 unfolding parts_fit
-returns-then-not-is_part c = one-failed _ _ _ (omega arith) (refused (part-tested _ _ _ _ _ _ c.requires.sets_value c.requires.from_value c.word_at.ensures.answers c.is_part.ensures.answers) c.if-not-is_part.true-raw)
+returns-then-not-is_part c = one-failed _ _ _ (omega arith) (sym (part-tested _ _ _ _ _ _ c.requires.sets_value c.requires.from_value c.word_at.ensures.answers c.is_part.ensures.answers) ∙ c.if-not-is_part.true)
 
 pub loop-k-preserved : goal.loop-k-preserved
-loop-k-preserved c = every-step _ _ c.loop-k.invariant (passed (part-tested _ _ _ _ _ _ c.requires.sets_value c.requires.from_value c.word_at.ensures.answers c.is_part.ensures.answers) c.if-not-is_part.false-raw)
+loop-k-preserved c = every-step _ _ c.loop-k.invariant (sym (part-tested _ _ _ _ _ _ c.requires.sets_value c.requires.from_value c.word_at.ensures.answers c.is_part.ensures.answers) ∙ c.if-not-is_part.false)
 
 pub returns : goal.returns
 unfolding parts_fit

@@ -1,14 +1,9 @@
 -- If eight at a time find nothing odd, all are parts. The loop's invariant: every word passed is a part.
-use borrow.Author.Rules.{rules}
-use mathlib.Core.Path.{◌≡◌, sym}
+use mathlib.Core.Path.{◌≡◌}
 use mathlib.Core.Bool.{true}
 use Prim.Native.Nat.{◌-◌}
-use native.Mathlib.Omega.{arith}
 use Rattle.plain.specs.Below.{every_below}
-use Rattle.plain.proofs.Below.{every-none, every-step}
-use Rattle.plain.proofs.Calls.{refused, passed}
-use Rattle.defs.specs.Table.{rulesets_in, part_word_at, is_part, parts_fit}
-use Rattle.acceptance.proofs.Check.{all-passed, one-failed, part-tested}
+use Rattle.defs.specs.Table.{rulesets_in, part_word_at, is_part}
 use Rattle.acceptance.proofs.parts_fit.Given as goal
 
 abbrev pub invariant-loop-k : goal.invariant-loop-k

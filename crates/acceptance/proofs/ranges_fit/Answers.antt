@@ -1,11 +1,7 @@
-use borrow.Author.Rules.{rules}
-use mathlib.Core.Path.{◌≡◌, sym, ap₂, ◌∙◌}
-use mathlib.Core.Bool.{true}
-use Prim.Native.Nat.{◌+◌, ◌-◌, ◌*◌, ◌≤◌}
+use mathlib.Core.Path.{sym, ap₂, ◌∙◌}
+use Prim.Native.Nat.{◌+◌}
 use native.Mathlib.Omega.{arith}
-use Rattle.plain.specs.Below.{every_below, sum_below}
 use Rattle.plain.proofs.Below.{every-none, every-step, sum-none, sum_more}
-use Rattle.defs.specs.Table.{count_at, range_fits}
 use Rattle.acceptance.proofs.Check.{range-fits, range-past, range-long, ranges-fail, ranges-pass}
 use Rattle.acceptance.proofs.ranges_fit.Goals as goal
 

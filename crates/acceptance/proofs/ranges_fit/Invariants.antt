@@ -1,13 +1,9 @@
 -- The loop's invariant: every range passed fits, and `sum` is the sum of the counts passed.
-use borrow.Author.Rules.{rules}
-use mathlib.Core.Path.{◌≡◌, sym, ap₂, ◌∙◌}
+use mathlib.Core.Path.{◌≡◌}
 use mathlib.Core.Bool.{true}
-use Prim.Native.Nat.{◌+◌, ◌-◌, ◌*◌, ◌≤◌}
-use native.Mathlib.Omega.{arith}
+use Prim.Native.Nat.{◌-◌, ◌*◌, ◌≤◌}
 use Rattle.plain.specs.Below.{every_below, sum_below}
-use Rattle.plain.proofs.Below.{every-none, every-step, sum-none, sum_more}
 use Rattle.defs.specs.Table.{count_at, range_fits}
-use Rattle.acceptance.proofs.Check.{range-fits, range-past, range-long, ranges-fail, ranges-pass}
 use Rattle.acceptance.proofs.ranges_fit.Given as goal
 
 abbrev pub invariant-loop-rule : goal.invariant-loop-rule

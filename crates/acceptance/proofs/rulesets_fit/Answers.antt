@@ -1,11 +1,6 @@
-use borrow.Author.Rules.{rules}
-use mathlib.Core.Path.{◌≡◌}
-use mathlib.Core.Bool.{true}
-use Prim.Native.Nat.{◌-◌, ◌≤◌}
 use native.Mathlib.Omega.{arith}
-use Rattle.plain.specs.Below.{every_below}
 use Rattle.plain.proofs.Below.{every-none, every-step}
-use Rattle.defs.specs.Table.{ruleset_before, ruleset_fits, rulesets_fit}
+use Rattle.defs.specs.Table.{rulesets_fit}
 use Rattle.acceptance.proofs.Check.{all-passed, one-failed, ruleset-fits, ruleset-past, ruleset-falls, before-next, before-first}
 use Rattle.acceptance.proofs.rulesets_fit.Goals as goal
 

@@ -1,13 +1,9 @@
 -- The loop's invariant: every record passed stands in order and below S, and `before` is the last one's ruleset.
-use borrow.Author.Rules.{rules}
 use mathlib.Core.Path.{◌≡◌}
 use mathlib.Core.Bool.{true}
 use Prim.Native.Nat.{◌-◌, ◌≤◌}
-use native.Mathlib.Omega.{arith}
 use Rattle.plain.specs.Below.{every_below}
-use Rattle.plain.proofs.Below.{every-none, every-step}
-use Rattle.defs.specs.Table.{ruleset_before, ruleset_fits, rulesets_fit}
-use Rattle.acceptance.proofs.Check.{all-passed, one-failed, ruleset-fits, ruleset-past, ruleset-falls, before-next, before-first}
+use Rattle.defs.specs.Table.{ruleset_before, ruleset_fits}
 use Rattle.acceptance.proofs.rulesets_fit.Given as goal
 
 abbrev pub invariant-loop-rule : goal.invariant-loop-rule

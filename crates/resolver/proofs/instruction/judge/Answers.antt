@@ -1,9 +1,4 @@
-use borrow.Author.Rules.{rules}
-use Prim.Native.Nat.{◌-◌}
-use native.Mathlib.Omega.{arith}
-use lib.ListN.{length}
-use Rattle.plain.proofs.Passed.{at_most_one}
-use Rattle.resolver.proofs.Tally.{Judging, none-judged, one-judged, all-judged}
+use Rattle.resolver.proofs.Tally.{none-judged, one-judged}
 use Rattle.resolver.proofs.instruction.judge.Goals as goal
 
 pub loop-i-init : goal.loop-i-init

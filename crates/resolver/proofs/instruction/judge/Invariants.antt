@@ -1,11 +1,8 @@
 -- `resolver::instruction::judge` meets its contract. The loop's invariant: the counts are those of the words passed.
 -- The measure is the number of words left.
-use borrow.Author.Rules.{rules}
 use Prim.Native.Nat.{◌-◌}
-use native.Mathlib.Omega.{arith}
 use lib.ListN.{length}
-use Rattle.plain.proofs.Passed.{at_most_one}
-use Rattle.resolver.proofs.Tally.{Judging, none-judged, one-judged, all-judged}
+use Rattle.resolver.proofs.Tally.{Judging}
 use Rattle.resolver.proofs.instruction.judge.Given as goal
 
 abbrev pub invariant-loop-i : goal.invariant-loop-i

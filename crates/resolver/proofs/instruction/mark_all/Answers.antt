@@ -1,9 +1,5 @@
-use borrow.Author.Rules.{rules}
-use Prim.Native.Nat.{◌-◌}
-use native.Mathlib.Omega.{arith}
-use lib.ListN.{length}
 use Rattle.resolver.specs.Passes.{marked_word}
-use Rattle.plain.proofs.Replaced.{Replaced, replaced-none, replaced-turn, replaced-all}
+use Rattle.plain.proofs.Replaced.{replaced-turn}
 use Rattle.resolver.proofs.instruction.mark_all.Goals as goal
 
 pub loop-i-preserved : goal.loop-i-preserved

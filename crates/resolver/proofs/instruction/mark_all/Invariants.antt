@@ -1,11 +1,9 @@
 -- `resolver::instruction::mark_all` meets its contract. The loop's invariant: the words passed are marked, and the
 -- rest are as they were. The measure is the number of words left.
-use borrow.Author.Rules.{rules}
 use Prim.Native.Nat.{◌-◌}
-use native.Mathlib.Omega.{arith}
 use lib.ListN.{length}
 use Rattle.resolver.specs.Passes.{marked_word}
-use Rattle.plain.proofs.Replaced.{Replaced, replaced-none, replaced-turn, replaced-all}
+use Rattle.plain.proofs.Replaced.{Replaced}
 use Rattle.resolver.proofs.instruction.mark_all.Given as goal
 
 abbrev pub invariant-loop-i : goal.invariant-loop-i

@@ -1,8 +1,4 @@
-use borrow.Author.Rules.{rules}
-use Prim.Native.Nat.{◌-◌}
-use native.Mathlib.Omega.{arith}
-use lib.ListN.{length}
-use Rattle.resolver.proofs.Least.{Passing, none_passed, all-passed}
+use Rattle.resolver.proofs.Least.{none_passed}
 use Rattle.resolver.proofs.Least.{pass-unknown, pass-less, pass_same, pass-greater}
 use Rattle.resolver.proofs.instruction.smallest.Goals as goal
 

@@ -1,26 +1,12 @@
-use borrow.Author.Rules.{rules}
-use mathlib.Core.Option.{some}
-use Prim.Native.Nat.{◌-◌, ◌<◌}
-use native.Mathlib.Omega.{arith}
-use lib.ListN.{length}
-use Rattle.resolver.proofs.Written.{Writing, none_written, not_written, has-place, one_written, all-written}
+use Rattle.resolver.proofs.Written.{none_written, not_written, has-place, one_written, all-written}
 use Rattle.resolver.proofs.instruction.write.Goals as goal
-
--- a turn that writes has a place for its index
-place : (c : tie.Then1 invariant-loop decreases-loop) → let at = c.before.before.before.before.loop in at.at < length at.chosen
-
-place c =
-    has-place
-    c.before.before.before.before.loop.invariant
-    c.before.before.before.loop-test.true
-    c.before.has-size.ensures
-    c.if1.true
 
 pub loop-i-init : goal.loop-i-init
 loop-i-init c = none_written _ _ _ c.requires.room
 
+-- a turn that writes has a place for its index
 pub bounds-chosen-at : goal.bounds-chosen-at
-bounds-chosen-at c = place c
+bounds-chosen-at c = has-place c.loop-i.invariant c.loop-i-test.true c.has_size.ensures.same c.if-has_size.true
 
 pub loop-i-preserved-then-has_size : goal.loop-i-preserved-then-has_size
 loop-i-preserved-then-has_size c =

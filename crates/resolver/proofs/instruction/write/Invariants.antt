@@ -1,11 +1,9 @@
 -- `resolver::instruction::write` meets its contract. The loop's invariant: the buffer has the indices of the words
 -- passed at its start, and the place is past them. The measure is the number of words left.
-use borrow.Author.Rules.{rules}
 use mathlib.Core.Option.{some}
-use Prim.Native.Nat.{◌-◌, ◌<◌}
-use native.Mathlib.Omega.{arith}
+use Prim.Native.Nat.{◌-◌}
 use lib.ListN.{length}
-use Rattle.resolver.proofs.Written.{Writing, none_written, not_written, has-place, one_written, all-written}
+use Rattle.resolver.proofs.Written.{Writing}
 use Rattle.resolver.proofs.instruction.write.Given as goal
 
 abbrev pub invariant-loop-i : goal.invariant-loop-i

@@ -2,7 +2,6 @@
 use mathlib.Core.Path.{sym, ◌∙◌}
 use borrow.Author.Tests.{ne_eqb}
 use Rattle.resolver.specs.Outcome.{is_bad}
-use borrow.Author.Rules.{rules}
 use Rattle.resolver.proofs.outcome.is_bad.Goals as goal
 
 pub returns-then-kind-eq-UNRESOLVED : goal.returns-then-kind-eq-UNRESOLVED
@@ -15,7 +14,9 @@ returns-then-kind-eq-SIZED c = record { bad = rw (c.size-size.ensures.size, sym 
 
 pub returns : goal.returns
 unfolding is_bad
-returns c = record { bad =
- let not-sized = rw c.kind-kind.ensures.kind at c.if-kind-eq-SIZED.false in
-    let not-unresolved = rw c.kind-kind.ensures.kind at c.if-kind-eq-UNRESOLVED.false in
-    rw (c.size-size.ensures.size, ne_eqb _ _ not-sized, ne_eqb _ _ not-unresolved) }
+returns c = record {
+  bad =
+      let not-sized = rw c.kind-kind.ensures.kind at c.if-kind-eq-SIZED.false in
+      let not-unresolved = rw c.kind-kind.ensures.kind at c.if-kind-eq-UNRESOLVED.false in
+      rw (c.size-size.ensures.size, ne_eqb _ _ not-sized, ne_eqb _ _ not-unresolved);
+}

@@ -2,7 +2,6 @@
 use mathlib.Core.Path.{sym, ◌∙◌}
 use borrow.Author.Tests.{ne_eqb}
 use Rattle.resolver.proofs.Words.{guess-by-kind}
-use borrow.Author.Rules.{rules}
 use Rattle.resolver.proofs.outcome.is_guess.Goals as goal
 
 pub returns-then-kind-eq-UNRESOLVED : goal.returns-then-kind-eq-UNRESOLVED

@@ -1,6 +1,5 @@
 -- `resolver::outcome::is_known` meets its contract: an outcome is known if its kind is 3.
 use Rattle.resolver.proofs.Words.{known-by-kind}
-use borrow.Author.Rules.{rules}
 use Rattle.resolver.proofs.outcome.is_known.Goals as goal
 
 pub returns : goal.returns

@@ -2,7 +2,6 @@
 use native.Mathlib.Omega.{arith}
 use borrow.Author.Tests.{le-leb, lt-leb}
 use Rattle.resolver.specs.Passes.{marked_word}
-use borrow.Author.Rules.{rules}
 use Rattle.resolver.proofs.outcome.mark_guess.Goals as goal
 
 pub returns-then-kind-ge-FAILED : goal.returns-then-kind-ge-FAILED
