@@ -76,7 +76,7 @@ module _ (t : List ℕ) where
   s = scene_of t [] []
 
   module _ (ts : List Tree) (u : Tree) {all : List Tree} (more : all ≡ ts ++ (u ∷ [])) {m : Measure} (is : m ≡ measured t ts) {n : ℕ} (counted : n ≡ exact_count s u) where
-    so_far : m.greatest ≡ greatest_count s ts
+    so-far : m.greatest ≡ greatest_count s ts
     unfolding measured
     so-far = ap (λ (x : Measure). x.greatest) is
 

@@ -128,17 +128,17 @@ module _ (t store : List ℕ) (used n base : ℕ) where
               }
 
           module _ (e : exact_count s (tree_at (entries store used) i) ≡ n) where
-            abbrev tree_words : List ℕ
-            tree_words = tree_words (moved base (tree_at (entries store used) i))
+            abbrev own_words : List ℕ
+            own_words = tree_words (moved base (tree_at (entries store used) i))
 
-            grown : words (trees_to store used (i + 1)) ≡ words (trees_to store used i) ++ tree_words
+            grown : words (trees_to store used (i + 1)) ≡ words (trees_to store used i) ++ own_words
             grown =
                 ap words (one-here store used stored i h top)
                 ∙ ap (λ (ts : List Tree). all_words (map (moved base) ts)) (kept s n (trees_to store used i) (tree_at (entries store used) i) e)
                 ∙ ap all_words (map-append (moved base) (with_count s n (trees_to store used i)) (tree_at (entries store used) i ∷ []))
                 ∙ words_more (map (moved base) (with_count s n (trees_to store used i))) (moved base (tree_at (entries store used) i))
 
-            fits : from + (length (words (trees_to store used i)) + length tree_words) ≤ length buffer
+            fits : from + (length (words (trees_to store used i)) + length own_words) ≤ length buffer
             fits =
                 let (rest, q) = the_rest store used (i + 1) in
                 let r = w.room in
@@ -149,19 +149,19 @@ module _ (t store : List ℕ) (used n base : ℕ) where
                   ap length (words-two (with_count s n (trees_to store used (i + 1))) (with_count s n rest)),
                   length-append (words (trees_to store used (i + 1))) (words rest),
                   ap length grown,
-                  length-append (words (trees_to store used i)) tree_words,
+                  length-append (words (trees_to store used i)) own_words,
                 )
 
             pub has_room : at + length (tree_words (tree_at (entries store used) i)) ≤ length answer
             has_room = omega (arith, fits, length_moved base (tree_at (entries store used) i), put-end from (words (trees_to store used i)) buffer w.put, w.long)
 
             pub one_written : {answer' : List ℕ} {at' : ℕ} → length answer' ≡ length answer
-                → (answer', at') ≡ put_after at tree_words answer → Writing buffer from (i + 1) answer' at'
+                → (answer', at') ≡ put_after at own_words answer → Writing buffer from (i + 1) answer' at'
             one_written l p = record {
               within = omega arith;
               room = w.room;
               long = l ∙ w.long;
               put =
-                  put-more from (words (trees_to store used i)) tree_words buffer (omega (arith, fits)) w.put p
+                  put-more from (words (trees_to store used i)) own_words buffer (omega (arith, fits)) w.put p
                   ∙ ap (λ (ws : List ℕ). put_after from ws buffer) (sym grown);
             }

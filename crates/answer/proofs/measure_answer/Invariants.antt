@@ -1,0 +1,15 @@
+-- `answer::measure_answer` meets its contract. The loop's invariant: what was found is the measure of the matches among the
+-- records passed. The loop's measure is the number of records left.
+use mathlib.Core.Path.{◌≡◌, sym, ap, ◌∙◌}
+use Prim.Native.Nat.{◌-◌, ◌≤◌}
+use native.Mathlib.Omega.{arith}
+use Rattle.answer.specs.Measured.{trees_to, measured}
+use Rattle.answer.proofs.Tops.{none_yet, all-passed, none_here}
+use Rattle.answer.proofs.Greatest.{none-measured}
+use Rattle.answer.proofs.measure_answer.Given as goal
+
+abbrev pub invariant-loop-i : goal.invariant-loop-i
+invariant-loop-i l = (l.i ≤ l.used) × (l.found ≡ measured l.table (trees_to l.store l.used l.i))
+
+abbrev pub decreases-loop-i : goal.decreases-loop-i
+decreases-loop-i l = l.used - l.i
