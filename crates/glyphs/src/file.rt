@@ -1,55 +1,84 @@
 // The file that the program's argument names, read whole. It refuses a file that cannot be read, with the system's words on
-// standard error, and one that is longer than its room.
-use crate::show::complain;
+// standard error, and one that is longer than a table's listing can be.
+use crate::TABLE;
+use crate::show::{complain, fail};
+use crate::table::MOST_BYTES;
+use std::alloc::Global;
+use std::env::FillError;
+use std::io::{Read, Write};
+use std::rt::{Env, Files};
+use std::{fs, io};
+
+// The bytes that a path may have.
+const PATH: usize = 4_096;
+
+// The system's numbers for an argument that is missing, a name that is too long, and one that is no UTF-8, which no path is.
+const MISSING: i32 = 22;
+
+const TOO_LONG: i32 = 36;
+
+const NO_TEXT: i32 = 84;
 
 // What reading a file comes to.
-#[derive(Clone, Copy)]
+#[derive(Drop)]
 pub enum File {
-    // All of it stands at the room's start.
-    Whole { bytes: usize },
-    // The room holds a part of it.
+    Whole(Vec<u8>),
+    // There is more of it than a listing has.
     Longer,
     // It could not be opened or read, and why is told.
     Unread,
 }
 
-// Tells why the last call failed.
-fn unread(path: &[u8]) -> File {
-    complain(b"the table cannot be read: ", 0);
-    os::fail(path);
-    File::Unread
+// Tells why a file was not read.
+fn unread<W: Write>(
+    alloc: Global,
+    err: &mut W,
+    path: &[u8],
+    error: &io::Error,
+) -> io::Result<File> {
+    complain(err, b"the table cannot be read: ", 0)?;
+    fail(alloc, err, path, error)?;
+    Ok(File::Unread)
 }
 
 // Reads the file that the first argument names.
-pub fn read_named(room: &mut [u8]) -> File {
-    let mut path = io::buffer();
-    let length = os::arg(1, &mut path);
-    if os::errno() != 0 {
-        return unread(b"its path");
-    }
-    read_at(&path[..length], room)
+pub fn read_named<S: Env + Files, W: Write>(
+    rt: &S,
+    alloc: Global,
+    err: &mut W,
+) -> io::Result<File> {
+    let mut path = [0u8; PATH];
+    let number = match rt.arg(TABLE, &mut path) {
+        Ok(length) => match std::str::from_utf8(&path[..length]) {
+            Ok(path) => return read_at(rt, alloc, err, path),
+            Err(_) => NO_TEXT,
+        },
+        Err(FillError::TooLong) => TOO_LONG,
+        Err(FillError::NotPresent) => MISSING,
+    };
+    unread(
+        alloc,
+        err,
+        b"its path",
+        &io::Error::from_raw_os_error(number),
+    )
 }
 
-fn read_at(path: &[u8], room: &mut [u8]) -> File {
-    let fd = os::open_read(path);
-    if fd < 0 {
-        return unread(path);
+fn read_at<S: Files, W: Write>(rt: &S, alloc: Global, err: &mut W, path: &str) -> io::Result<File> {
+    match read_bytes(rt, alloc, path) {
+        Ok(bytes) => Ok(bytes),
+        Err(error) => unread(alloc, err, path.as_bytes(), &error),
     }
-    let found = read_open(fd, path, room);
-    libc::close(fd);
-    found
 }
 
-// A short count is an end or a failure, and a full one may leave something: one more read tells which.
-fn read_open(fd: i32, path: &[u8], room: &mut [u8]) -> File {
-    let bytes = io::read_full(fd, room);
-    let mut next = [0u8; 1];
-    let more = libc::read(fd, &mut next);
-    if more < 0 {
-        return unread(path);
+// One byte more than a listing has tells that a file is longer.
+fn read_bytes<S: Files>(rt: &S, alloc: Global, path: &str) -> io::Result<File> {
+    let file = fs::open(rt, path)?;
+    let mut bytes = Vec::new(alloc);
+    file.take(MOST_BYTES as u64 + 1).read_to_end(&mut bytes)?;
+    if bytes.len() <= MOST_BYTES {
+        Ok(File::Whole(bytes))
+    } else {
+        Ok(File::Longer)
     }
-    if more == 0 {
-        return File::Whole { bytes };
-    }
-    File::Longer
 }

@@ -2,9 +2,13 @@
 // only its first bytes are held. A line is what stands before a newline, and after the last one if that is something.
 // Whitespace at its end is taken off, so a file whose lines end in 13 and 10 is read like any other. What is taken off or not
 // held is counted all the same, and so are the newlines: where a line begins is its place in the file.
+ghost use Rattle.std.specs.Prelude.{◌≡◌, ◌+◌, ◌-◌, ◌^◌, min};
+
 use crate::matching::{Verdict, show_line};
-use crate::show::{part, tell};
-use libc::STDIN_FILENO;
+use crate::show::{fail, part, tell};
+use std::alloc::Global;
+use std::io;
+use std::io::{Read, Write};
 
 // How much is read at a time.
 const CHUNK: usize = 4_096;
@@ -15,8 +19,8 @@ const HELD: usize = 121;
 // What is lent as the base of a line that begins past what 32 bits hold: matching refuses it, with number 19.
 const TOO_FAR: u32 = 4_294_967_295;
 
-// A proved loop has to end, and nothing says that the input does. So the loop over it counts its turns down, from a number
-// that no run uses up.
+// A proved loop has to end, and nothing says that the input does. So the loop over it counts its turns, up to a number that
+// no run uses up.
 const TURNS: u64 = u64::MAX;
 
 // What a read of the input comes to.
@@ -42,12 +46,16 @@ struct Progress {
 }
 
 // One more, or as many as can be counted.
-fn more(count: usize) -> usize {
+fn more(count: usize) -> usize
+    ensures { result ≡ min (count + 1) (2 ^ 64 - 1) }
+{
     if count < usize::MAX { count + 1 } else { count }
 }
 
 // The base of a line that has so many bytes before it.
-fn base_of(begin: usize) -> u32 {
+fn base_of(begin: usize) -> u32
+    ensures { result ≡ min begin (2 ^ 32 - 1) }
+{
     if begin < TOO_FAR as usize {
         begin as u32
     } else {
@@ -85,25 +93,32 @@ impl Progress {
     }
 
     // The line is at its end. What is read in it is written and counted, and the next line begins.
-    fn ended(self, table: &[u16], encoded: bool, line: &[u8; HELD]) -> Self {
+    fn ended<W: Write>(
+        self,
+        out: &mut W,
+        table: &[u16],
+        encoded: bool,
+        line: &[u8; HELD],
+    ) -> io::Result<Self> {
         let verdict = show_line(
+            out,
             table,
             encoded,
             part(line, 0, self.solid),
             self.longer,
             base_of(self.begin),
-        );
+        )?;
         let mut next = Progress::new();
         next.bytes = self.bytes;
         next.begin = self.bytes;
         next.lines = self.lines;
         next.stops = self.stops;
         match verdict {
-            Verdict::PassedOver => next,
-            Verdict::Read => next.counted(),
+            Verdict::PassedOver => Ok(next),
+            Verdict::Read => Ok(next.counted()),
             Verdict::Stops => {
                 next.stops = more(next.stops);
-                next.counted()
+                Ok(next.counted())
             }
         }
     }
@@ -113,82 +128,102 @@ impl Progress {
         self
     }
 
-    fn next(mut self, table: &[u16], encoded: bool, line: &mut [u8; HELD], byte: u8) -> Self {
+    fn next<W: Write>(
+        mut self,
+        out: &mut W,
+        table: &[u16],
+        encoded: bool,
+        line: &mut [u8; HELD],
+        byte: u8,
+    ) -> io::Result<Self> {
         self.bytes = more(self.bytes);
         if byte == b'\n' {
-            self.ended(table, encoded, line)
+            self.ended(out, table, encoded, line)
         } else {
-            self.with_byte(line, byte)
+            Ok(self.with_byte(line, byte))
         }
     }
 
     // The input is at its end: its last line may have no newline. Writes what it all comes to.
-    fn finish(self, table: &[u16], encoded: bool, line: &[u8; HELD]) {
+    fn finish<W: Write>(
+        self,
+        out: &mut W,
+        table: &[u16],
+        encoded: bool,
+        line: &[u8; HELD],
+    ) -> io::Result<()> {
         let all = if 0 < self.held {
-            self.ended(table, encoded, line)
+            self.ended(out, table, encoded, line)?
         } else {
             self
         };
         tell(
+            out,
             b"\nlines: %, stopping the build: %\n",
             all.lines,
             all.stops,
             0,
-        );
+        )
     }
 }
 
-// Goes through a chunk's first bytes.
-fn take(
+// Goes through the bytes of a chunk.
+fn take<W: Write>(
+    out: &mut W,
     table: &[u16],
     encoded: bool,
-    chunk: &[u8; CHUNK],
-    count: usize,
+    chunk: &[u8],
     line: &mut [u8; HELD],
     before: Progress,
-) -> Progress {
-    let bytes = part(chunk, 0, count);
+) -> io::Result<Progress> {
     let mut progress = before;
-    let mut i: usize = 0;
-    while i < bytes.len() {
-        progress = progress.next(table, encoded, line, bytes[i]);
-        i += 1;
+    for byte in chunk {
+        progress = progress.next(out, table, encoded, line, *byte)?;
     }
-    progress
+    Ok(progress)
 }
 
-fn read_chunk(chunk: &mut [u8; CHUNK]) -> Chunk {
-    let got = libc::read(STDIN_FILENO, chunk);
-    if got < 0 {
-        os::fail(b"standard input");
-        return Chunk::Failed;
+// Reads to the chunk's start. Why a read failed is told.
+fn read_chunk<R: Read, E: Write>(
+    alloc: Global,
+    input: &mut R,
+    err: &mut E,
+    chunk: &mut [u8; CHUNK],
+) -> io::Result<Chunk> {
+    match input.read(chunk) {
+        Ok(0) => Ok(Chunk::End),
+        Ok(count) => Ok(Chunk::Bytes(count)),
+        Err(error) => {
+            fail(alloc, err, b"standard input", &error)?;
+            Ok(Chunk::Failed)
+        }
     }
-    if got == 0 {
-        return Chunk::End;
-    }
-    Chunk::Bytes(io::count(got, chunk))
 }
 
-// Writes what is read in the lines of standard input, and last what it all comes to.
-pub fn show(table: &[u16], encoded: bool) {
+// Writes what is read in the lines of the input, and last what it all comes to. What stands ready is written out before each
+// read, which may wait.
+pub fn show<R: Read, W: Write, E: Write>(
+    alloc: Global,
+    input: &mut R,
+    out: &mut W,
+    err: &mut E,
+    table: &[u16],
+    encoded: bool,
+) -> io::Result<()> {
     let mut chunk = [0u8; CHUNK];
     let mut line = [0u8; HELD];
     let mut progress = Progress::new();
-    let mut turns = TURNS;
-    while turns > 0 {
-        turns -= 1;
-        let found = read_chunk(&mut chunk);
+    for _ in 0..TURNS {
+        out.flush()?;
+        let found = read_chunk(alloc, input, err, &mut chunk)?;
         match found {
             Chunk::Bytes(count) => {
-                progress = take(table, encoded, &chunk, count, &mut line, progress);
+                let bytes = part(&chunk, 0, count);
+                progress = take(out, table, encoded, bytes, &mut line, progress)?;
             }
-            Chunk::End => {
-                progress.finish(table, encoded, &line);
-                return;
-            }
-            Chunk::Failed => {
-                return;
-            }
+            Chunk::End => return progress.finish(out, table, encoded, &line),
+            Chunk::Failed => return Ok(()),
         }
     }
+    Ok(())
 }

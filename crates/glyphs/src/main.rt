@@ -8,6 +8,8 @@
 // build. It refuses a bad table and wrong use on standard error, and then reads no line.
 #![tactic(auto)]
 
+ghost use Rattle.std.specs.Prelude.{◌≡◌, ◌≤◌, length, take};
+
 mod file;
 mod input;
 mod matching;
@@ -20,37 +22,66 @@ mod show;
 mod table;
 
 use crate::file::File;
-use crate::show::{complain, part};
+use crate::show::complain;
 use crate::table::{LISTING, MOST_BYTES, MOST_WORDS};
 use listing::reading::{ReadAnswer, read_table};
+use std::alloc::Global;
+use std::env::FillError;
+use std::io;
+use std::io::{BufWriter, Read, Write};
+use std::rt::{Env, Files};
 
-// How many arguments there are, the program's name counted, if one names a table.
-const WITH_TABLE: usize = 2;
+// The argument that names a table, if one does. The program's own name is argument 0.
+pub const TABLE: usize = 1;
+
+fn is_given<S: Env>(rt: &S, argument: usize) -> bool {
+    !matches!(rt.arg(argument, &mut []), Err(FillError::NotPresent))
+}
 
 // The table that reading wrote: exactly so many words, the first of its room. Reading says no more than the room has.
-fn table_in(room: &[u16], words: usize) -> &[u16] {
+fn table_in(room: &[u16], words: usize) -> &[u16]
+    ensures { words ≤ length room.now → result.now ≡ take words room.now }
+{
     if words <= room.len() {
         return &room[0..words];
     }
     &room[0..0]
 }
 
-// Writes what is read in the lines of standard input. The encodings are known of the example's own table alone.
-fn show_lines(table: &[u16], encoded: bool) {
+// Writes what is read in the lines of the input. The encodings are known of the example's own table alone.
+fn show_lines<R: Read, W: Write, E: Write>(
+    alloc: Global,
+    input: &mut R,
+    out: &mut W,
+    err: &mut E,
+    table: &[u16],
+    encoded: bool,
+) -> io::Result<()> {
     if encoded {
-        rules::show(table);
+        rules::show(out, table)?;
     }
-    input::show(table, encoded);
+    input::show(alloc, input, out, err, table, encoded)
 }
 
 // Reads a table's listing, and then the lines under that table.
-fn with_listing(text: &[u8], encoded: bool) {
+fn with_listing<R: Read, W: Write, E: Write>(
+    alloc: Global,
+    input: &mut R,
+    out: &mut W,
+    err: &mut E,
+    text: &[u8],
+    encoded: bool,
+) -> io::Result<()> {
     let mut room = [0u16; MOST_WORDS];
     let answer = read_table(text, &mut room);
     match answer {
-        ReadAnswer::Read { words } => show_lines(table_in(&room, words as usize), encoded),
-        ReadAnswer::BadText { line } => refusal::bad_listing(text, line as usize),
+        ReadAnswer::Read { words } => {
+            let table = table_in(&room, words as usize);
+            show_lines(alloc, input, out, err, table, encoded)
+        }
+        ReadAnswer::BadText { line } => refusal::bad_listing(err, text, line as usize),
         ReadAnswer::NoRoom => complain(
+            err,
             b"the table is refused, number 16: it takes more than % words\n",
             MOST_WORDS,
         ),
@@ -58,29 +89,40 @@ fn with_listing(text: &[u8], encoded: bool) {
 }
 
 // The table is in the file that the first argument names.
-fn with_file() {
-    let mut text = [0u8; MOST_BYTES];
-    let found = file::read_named(&mut text);
+fn with_file<S: Env + Files, R: Read, W: Write, E: Write>(
+    rt: &S,
+    alloc: Global,
+    input: &mut R,
+    out: &mut W,
+    err: &mut E,
+) -> io::Result<()> {
+    let found = file::read_named(rt, alloc, err)?;
     match found {
-        File::Whole { bytes } => with_listing(part(&text, 0, bytes), false),
+        File::Whole(text) => with_listing(alloc, input, out, err, text.as_slice(), false),
         File::Longer => complain(
+            err,
             b"the table is refused, number 15: it is longer than % bytes\n",
             MOST_BYTES,
         ),
-        File::Unread => {}
+        File::Unread => Ok(()),
     }
 }
 
-fn main() {
-    let arguments = os::arg_count();
-    if arguments < WITH_TABLE {
-        with_listing(&LISTING, true);
-    } else if arguments == WITH_TABLE {
-        with_file();
+fn main(rt: HostRuntime) -> io::Result<()> {
+    let alloc = rt.alloc();
+    let mut input = rt.reader();
+    let mut out = BufWriter::new(alloc, io::writer(&rt))?;
+    let mut err = rt.stderr();
+    if !is_given(&rt, TABLE) {
+        with_listing(alloc, &mut input, &mut out, &mut err, &LISTING, true)?;
+    } else if !is_given(&rt, TABLE + 1) {
+        with_file(&rt, alloc, &mut input, &mut out, &mut err)?;
     } else {
         complain(
+            &mut err,
             b"wrong use: one table at most, as in glyphs TABLE <LINES\n",
             0,
-        );
+        )?;
     }
+    out.flush()
 }

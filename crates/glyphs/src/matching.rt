@@ -5,6 +5,8 @@ use crate::refusal::{put_bad_line, put_refusal};
 use crate::selection::choose;
 use crate::show::{say, tell};
 use expressions::{Filling, fill_sheet};
+use std::io;
+use std::io::Write;
 use trials::Answer;
 
 // As many visits as a call may take.
@@ -23,49 +25,73 @@ pub enum Verdict {
 
 // Writes a line, and under it what is read in it. Of a longer line its first bytes are lent. Here and below, the base is where
 // the line begins in the file, so that an argument's place is one in the file too.
-pub fn show_line(table: &[u16], encoded: bool, line: &[u8], longer: bool, base: u32) -> Verdict {
-    say(line);
+pub fn show_line<W: Write>(
+    out: &mut W,
+    table: &[u16],
+    encoded: bool,
+    line: &[u8],
+    longer: bool,
+    base: u32,
+) -> io::Result<Verdict> {
+    say(out, line)?;
     if longer {
-        say(b"...");
+        say(out, b"...")?;
     }
-    say(b"\n");
+    say(out, b"\n")?;
     if is_passed_over(line) {
-        return Verdict::PassedOver;
+        return Ok(Verdict::PassedOver);
     }
     let mut sheet = [0u8; MOST_SHEET];
     let size = lines::sheet_size(line.len());
-    if read(table, encoded, line, base, &mut sheet[0..size]) {
-        Verdict::Read
+    if read(out, table, encoded, line, base, &mut sheet[0..size])? {
+        Ok(Verdict::Read)
     } else {
-        Verdict::Stops
+        Ok(Verdict::Stops)
     }
 }
 
 fn is_passed_over(line: &[u8]) -> bool {
-    if line.len() == 0 {
-        return true;
+    match line {
+        [] | [b'#', ..] => true,
+        _ => false,
     }
-    line[0] == b'#'
 }
 
 // Fills the line's sheet, and reads the line. Here and below, the answer is whether the build goes on.
-fn read(table: &[u16], encoded: bool, line: &[u8], base: u32, sheet: &mut [u8]) -> bool {
+fn read<W: Write>(
+    out: &mut W,
+    table: &[u16],
+    encoded: bool,
+    line: &[u8],
+    base: u32,
+    sheet: &mut [u8],
+) -> io::Result<bool> {
     let filling = fill_sheet(line, sheet);
     match filling {
-        Filling::Filled { words: _ } => match_line(table, encoded, line, base, sheet),
+        Filling::Filled { words: _ } => match_line(out, table, encoded, line, base, sheet),
         Filling::BadLine { place } => {
-            put_bad_line(line, place as usize);
-            false
+            put_bad_line(out, line, place as usize)?;
+            Ok(false)
         }
         Filling::BadRoom => {
-            say(b"    the build stops, number 18: its sheet's length is wrong\n");
-            false
+            say(
+                out,
+                b"    the build stops, number 18: its sheet's length is wrong\n",
+            )?;
+            Ok(false)
         }
     }
 }
 
 // Calls both entry points.
-fn match_line(table: &[u16], encoded: bool, line: &[u8], base: u32, sheet: &[u8]) -> bool {
+fn match_line<W: Write>(
+    out: &mut W,
+    table: &[u16],
+    encoded: bool,
+    line: &[u8],
+    base: u32,
+    sheet: &[u8],
+) -> io::Result<bool> {
     let mut found = [0u32; ROOM];
     let scan = matcher::match_instr(table, line, sheet, BUDGET, base, &mut found);
     let mut again = [0u32; ROOM];
@@ -74,50 +100,51 @@ fn match_line(table: &[u16], encoded: bool, line: &[u8], base: u32, sheet: &[u8]
         Answer::Matched {
             visits: _,
             words: _,
-        } => put_readings(encoded, line, base, &found, &again),
+        } => put_readings(out, encoded, line, base, &found, &again),
         _ => {
-            put_refusal(scan, line);
-            false
+            put_refusal(out, scan, line)?;
+            Ok(false)
         }
     }
 }
 
 // Writes the readings, how many lookup found, and what is chosen among them where their encodings are known.
-fn put_readings(
+fn put_readings<W: Write>(
+    out: &mut W,
     encoded: bool,
     line: &[u8],
     base: u32,
     found: &[u32; ROOM],
     again: &[u32; ROOM],
-) -> bool {
+) -> io::Result<bool> {
     let count = word(found, 0, 0);
-    let first = Reading::show(found, line, base, FIRST);
-    let latest = show_others(found, line, base, first, count);
+    let first = Reading::show(out, found, line, base, FIRST)?;
+    let latest = show_others(out, found, line, base, first, count)?;
     tell(
+        out,
         b"    readings: % by scan, % by lookup; exact parts: %\n",
         count,
         word(again, 0, 0),
         word(found, 0, 1),
-    );
+    )?;
     if !encoded {
-        return true;
+        return Ok(true);
     }
-    choose(first, latest, count)
+    choose(out, first, latest, count)
 }
 
 // Writes the readings after the first, and returns the last one of all.
-fn show_others(
+fn show_others<W: Write>(
+    out: &mut W,
     found: &[u32; ROOM],
     line: &[u8],
     base: u32,
     first: Reading,
     count: usize,
-) -> Reading {
+) -> io::Result<Reading> {
     let mut latest = first;
-    let mut shown: usize = 1;
-    while shown < count {
-        latest = Reading::show(found, line, base, latest.at);
-        shown += 1;
+    for _ in 1..count {
+        latest = Reading::show(out, found, line, base, latest.at)?;
     }
-    latest
+    Ok(latest)
 }

@@ -1,5 +1,7 @@
 // Outcome words, guess + 2·kind + 8·size: a rule's size, if its values meet its constraint. It evaluates only a number, with a
 // minus or none: any other expression, a name or a sum, is a guess until the last pass, and the same number then.
+ghost use Rattle.std.specs.Prelude.{◌≤◌, length};
+
 use crate::rules::{TWO_BYTES, fits_of};
 
 // The word of a failed constraint; of a sized outcome but for its size; and what a size is multiplied by.
@@ -59,13 +61,13 @@ fn fits(v: Value, bits: usize) -> bool {
 }
 
 // Past a minus, if one stands at the start.
-fn over_sign(text: &[u8]) -> usize {
-    if 0 < text.len() {
-        if text[0] == b'-' {
-            return 1;
-        }
+fn over_sign(text: &[u8]) -> usize
+    ensures { result ≤ length text.now }
+{
+    match text {
+        [b'-', ..] => 1,
+        _ => 0,
     }
-    0
 }
 
 // Whether a number goes on with this byte. Whitespace may stand between the minus and the digits.
@@ -80,18 +82,15 @@ fn is_of_number(byte: u8) -> bool {
 pub fn value_of(text: &[u8]) -> Value {
     let from = over_sign(text);
     let mut size: u32 = 0;
-    let mut i = from;
-    while i < text.len() {
-        let byte = text[i];
-        if !is_of_number(byte) {
+    for byte in &text[from..] {
+        if !is_of_number(*byte) {
             return Value {
                 number: false,
                 negative: false,
                 size: OTHER,
             };
         }
-        size = with_digit(size, byte);
-        i += 1;
+        size = with_digit(size, *byte);
     }
     Value {
         number: true,

@@ -1,9 +1,13 @@
 // Takes a reading of any table from the answer words, writes it, and makes its outcome words. A nested argument's match
 // follows it, so a walk from left to right meets every argument with no recursion: it keeps, for each depth, how many
 // arguments of the match there are still to come. Every step is guarded, so any words are walked safely.
+ghost use Rattle.std.specs.Prelude.{◌≡◌, ◌+◌, min, slice_index};
+
 use crate::outcome::{SIZE_UNIT, SIZED, value_of, with_value};
 use crate::rules::bits_of;
 use crate::show::{part, say, tell, wide};
+use std::io;
+use std::io::Write;
 
 // The most words that an answer may have here.
 pub const ROOM: usize = 4_096;
@@ -44,7 +48,9 @@ pub struct Reading {
 }
 
 // The word that stands so far after a place, or 0 past the end.
-pub fn word(words: &[u32; ROOM], at: usize, after: usize) -> usize {
+pub fn word(words: &[u32; ROOM], at: usize, after: usize) -> usize
+    ensures { result ≡ slice_index words.now (at + after) }
+{
     if at < ROOM {
         if after < ROOM - at {
             return wide(words[at + after]);
@@ -54,7 +60,9 @@ pub fn word(words: &[u32; ROOM], at: usize, after: usize) -> usize {
 }
 
 // The place that stands so far after another, or the end.
-fn past(at: usize, after: usize) -> usize {
+fn past(at: usize, after: usize) -> usize
+    ensures { result ≡ min (at + after) 4096 }
+{
     if at < ROOM {
         if after < ROOM - at {
             return at + after;
@@ -90,107 +98,132 @@ fn text_of<'a>(words: &[u32; ROOM], line: &'a [u8], base: u32, at: usize) -> &'a
 }
 
 // Writes it, and its place in the file: its start, and the end that is no part of it.
-fn put_text(words: &[u32; ROOM], line: &[u8], base: u32, at: usize) {
-    say(b" {");
-    say(text_of(words, line, base, at));
-    tell(b" at %..%", word(words, at, START), word(words, at, END), 0);
+fn put_text<W: Write>(
+    out: &mut W,
+    words: &[u32; ROOM],
+    line: &[u8],
+    base: u32,
+    at: usize,
+) -> io::Result<()> {
+    say(out, b" {")?;
+    say(out, text_of(words, line, base, at))?;
+    tell(
+        out,
+        b" at %..%",
+        word(words, at, START),
+        word(words, at, END),
+        0,
+    )
 }
 
 impl Reading {
     // The reading that begins at a place, before its first argument.
-    fn new(words: &[u32; ROOM], at: usize) -> Self {
+    fn new<W: Write>(out: &mut W, words: &[u32; ROOM], at: usize) -> io::Result<Self> {
         let rule = word(words, at, 1);
-        tell(b"    %.%", word(words, at, 0), rule, 0);
+        tell(out, b"    %.%", word(words, at, 0), rule, 0)?;
         let sized = SIZED + SIZE_UNIT * bits_of(rule) as u32;
-        Reading {
+        Ok(Reading {
             rule,
             guessing: sized,
             last: sized,
             at: past(at, RULE),
             depth: 0,
             whole: false,
-        }
+        })
     }
 
     // Past an expression, whose value counts. (The example's nested rules have no parameters.)
-    fn over_expression(mut self, words: &[u32; ROOM], line: &[u8], base: u32) -> Self {
+    fn over_expression<W: Write>(
+        mut self,
+        out: &mut W,
+        words: &[u32; ROOM],
+        line: &[u8],
+        base: u32,
+    ) -> io::Result<Self> {
         let at = self.at;
-        put_text(words, line, base, at);
-        say(b"}");
+        put_text(out, words, line, base, at)?;
+        say(out, b"}")?;
         let v = value_of(text_of(words, line, base, at));
         self.guessing = with_value(v, self.rule, false, self.guessing);
         self.last = with_value(v, self.rule, true, self.last);
         self.at = past(at, ARGUMENT);
-        self
+        Ok(self)
     }
 
     // Into a nested argument's match: its text and place, its rule, and its own arguments to come.
-    fn into_match(
+    fn into_match<W: Write>(
         mut self,
+        out: &mut W,
         words: &[u32; ROOM],
         line: &[u8],
         base: u32,
         to_come: &mut [usize; DEPTHS],
-    ) -> Self {
+    ) -> io::Result<Self> {
         let at = self.at;
         let depth = self.depth;
-        put_text(words, line, base, at);
+        put_text(out, words, line, base, at)?;
         tell(
+            out,
             b": %.%",
             word(words, at, ARGUMENT),
             word(words, at, ARGUMENT + 1),
             0,
-        );
+        )?;
         if depth < DEEPEST {
             to_come[depth + 1] = word(words, at, ARGUMENT + COUNT);
             self.depth = depth + 1;
         }
         self.at = past(at, ARGUMENT + RULE);
-        self
+        Ok(self)
     }
 
     // Out of a match that has no more arguments.
-    fn out_of_match(mut self) -> Self {
+    fn out_of_match<W: Write>(mut self, out: &mut W) -> io::Result<Self> {
         if self.depth == 0 {
-            say(b"\n");
+            say(out, b"\n")?;
             self.whole = true;
-            return self;
+            return Ok(self);
         }
-        say(b"}");
+        say(out, b"}")?;
         self.depth -= 1;
-        self
+        Ok(self)
     }
 
-    fn next(
+    fn next<W: Write>(
         self,
+        out: &mut W,
         words: &[u32; ROOM],
         line: &[u8],
         base: u32,
         to_come: &mut [usize; DEPTHS],
-    ) -> Self {
+    ) -> io::Result<Self> {
         if !take_one(to_come, self.depth) {
-            return self.out_of_match();
+            return self.out_of_match(out);
         }
         if word(words, self.at, 0) == NESTED {
-            return self.into_match(words, line, base, to_come);
+            return self.into_match(out, words, line, base, to_come);
         }
-        self.over_expression(words, line, base)
+        self.over_expression(out, words, line, base)
     }
 
     // Writes the reading that begins at a place, and returns it. An argument has three words and takes at most two turns,
     // into it and out of it, so as many turns as words are enough.
-    pub fn show(words: &[u32; ROOM], line: &[u8], base: u32, at: usize) -> Self {
+    pub fn show<W: Write>(
+        out: &mut W,
+        words: &[u32; ROOM],
+        line: &[u8],
+        base: u32,
+        at: usize,
+    ) -> io::Result<Self> {
         let mut to_come = [0usize; DEPTHS];
         to_come[0] = word(words, at, COUNT);
-        let mut r = Reading::new(words, at);
-        let mut turns = ROOM;
-        while turns > 0 {
-            turns -= 1;
-            r = r.next(words, line, base, &mut to_come);
+        let mut r = Reading::new(out, words, at)?;
+        for _ in 0..ROOM {
+            r = r.next(out, words, line, base, &mut to_come)?;
             if r.whole {
-                return r;
+                break;
             }
         }
-        r
+        Ok(r)
     }
 }

@@ -1,6 +1,10 @@
 // Why a line stops the build, and why a table's listing is refused: the number, and its words.
+ghost use Rattle.std.specs.Prelude.{◌≡◌, ◌==◌, count_by};
+
 use crate::reading::ROOM;
 use crate::show::{complain, say, tell};
+use std::io;
+use std::io::Write;
 use trials::Answer;
 
 // The longest line.
@@ -11,24 +15,26 @@ fn wide(byte: u8) -> usize {
 }
 
 // Writes why matching refused a line.
-pub fn put_refusal(answer: Answer, line: &[u8]) {
-    say(b"    the build stops, ");
+pub fn put_refusal<W: Write>(out: &mut W, answer: Answer, line: &[u8]) -> io::Result<()> {
+    say(out, b"    the build stops, ")?;
     match answer {
-        Answer::NoMatch { visits: _ } => say(b"number 1: no rule reads it\n"),
-        Answer::BadTable => say(b"number 2: bad table\n"),
-        Answer::BadLine { place } => put_place(line, place as usize),
-        Answer::BadSheet => say(b"number 4: bad sheet\n"),
-        Answer::BadBudget => say(b"number 5: bad budget\n"),
-        Answer::BadBase => say(b"number 19: the line begins too far on in the file\n"),
+        Answer::NoMatch { visits: _ } => say(out, b"number 1: no rule reads it\n"),
+        Answer::BadTable => say(out, b"number 2: bad table\n"),
+        Answer::BadLine { place } => put_place(out, line, place as usize),
+        Answer::BadSheet => say(out, b"number 4: bad sheet\n"),
+        Answer::BadBudget => say(out, b"number 5: bad budget\n"),
+        Answer::BadBase => say(out, b"number 19: the line begins too far on in the file\n"),
         Answer::Spent { visits } => tell(
+            out,
             b"number 6: % visits are spent, and there is more to try\n",
             visits as usize,
             0,
             0,
         ),
-        Answer::TooDeep { visits: _ } => say(b"number 7: its rules nest deeper than 16\n"),
-        Answer::PoolFull { visits: _ } => say(b"number 8: more than 4,096 records are due\n"),
+        Answer::TooDeep { visits: _ } => say(out, b"number 7: its rules nest deeper than 16\n"),
+        Answer::PoolFull { visits: _ } => say(out, b"number 8: more than 4,096 records are due\n"),
         Answer::TooLong { visits: _, words } => tell(
+            out,
             b"number 9: its readings take % words, more than %\n",
             words as usize,
             ROOM,
@@ -38,60 +44,60 @@ pub fn put_refusal(answer: Answer, line: &[u8]) {
         Answer::Matched {
             visits: _,
             words: _,
-        } => say(b"\n"),
+        } => say(out, b"\n"),
     }
 }
 
 // Writes why no sheet is filled for a line.
-pub fn put_bad_line(line: &[u8], place: usize) {
-    say(b"    the build stops, ");
-    put_place(line, place);
+pub fn put_bad_line<W: Write>(out: &mut W, line: &[u8], place: usize) -> io::Result<()> {
+    say(out, b"    the build stops, ")?;
+    put_place(out, line, place)
 }
 
 // The place counts from 0 in the line, and not in the file as an argument's does.
-fn put_place(line: &[u8], place: usize) {
+fn put_place<W: Write>(out: &mut W, line: &[u8], place: usize) -> io::Result<()> {
     if LONGEST < line.len() {
         tell(
+            out,
             b"number 3: bad line at place %, longer than % bytes\n",
             place,
             LONGEST,
             0,
-        );
+        )
     } else if place < line.len() {
         tell(
+            out,
             b"number 3: bad line at place %, byte %\n",
             place,
             wide(line[place]),
             0,
-        );
+        )
+    } else {
+        Ok(())
     }
 }
 
 // How many lines of a text are ended.
-fn ended_lines(text: &[u8]) -> usize {
-    let mut count: usize = 0;
-    let mut i: usize = 0;
-    while i < text.len() {
-        if text[i] == b'\n' {
-            count += 1;
-        }
-        i += 1;
-    }
-    count
+fn ended_lines(text: &[u8]) -> usize
+    ensures { result ≡ count_by (λ b. b == 10) text.now }
+{
+    text.iter().filter(|byte| **byte == b'\n').count()
 }
 
 // Tells where a listing is bad. Reading counts its lines from 0, and gives the number of ended lines if only the end is
 // wrong; an editor counts from 1.
-pub fn bad_listing(text: &[u8], line: usize) {
+pub fn bad_listing<W: Write>(err: &mut W, text: &[u8], line: usize) -> io::Result<()> {
     if line < ended_lines(text) {
         complain(
+            err,
             b"the table is refused, number 15: its line % is bad (the first is 1)\n",
             line + 1,
-        );
+        )
     } else {
         complain(
+            err,
             b"the table is refused, number 15: its end is bad, after % ended lines\n",
             line,
-        );
+        )
     }
 }

@@ -3,6 +3,8 @@ ghost use Rattle.std.specs.Prelude.{◌≤◌};
 
 use crate::show::{say, tell};
 use defs::ruledef::{Part, is_top_rule, part_at, parts_of, rule_count, ruleset_of};
+use std::io;
+use std::io::Write;
 
 // The sizes of an encoding: an operation, and a byte of values or two.
 const SHORT: usize = 16;
@@ -17,7 +19,7 @@ const BYTE: usize = 8;
 pub const TWO_BYTES: usize = 16;
 
 // No table has more rules.
-const MOST_RULES: u16 = 512;
+const MOST_RULES: usize = 512;
 
 // The size in bits of a rule of ruleset 0.
 pub fn bits_of(rule: usize) -> usize
@@ -39,17 +41,15 @@ pub fn fits_of(rule: usize) -> usize {
 }
 
 // Writes all rules of the table. A rule's number counts from its ruleset's first.
-pub fn show(table: &[u16]) {
-    say(b"Rules: ruleset.rule, pattern, encoding\n");
-    let rules = rule_count(table);
+pub fn show<W: Write>(out: &mut W, table: &[u16]) -> io::Result<()> {
+    say(out, b"Rules: ruleset.rule, pattern, encoding\n")?;
+    let rules = rule_count(table).min(MOST_RULES) as u16;
     let mut first: u16 = 0;
-    let mut rule: u16 = 0;
-    while rule < MOST_RULES && (rule as usize) < rules {
+    for rule in 0..rules {
         first = first_of(table, first, rule);
-        show_rule(table, rule, (rule - first) as usize);
-        rule += 1;
+        show_rule(out, table, rule, (rule - first) as usize)?;
     }
-    say(b"\n");
+    say(out, b"\n")
 }
 
 // The first rule of a rule's ruleset, whose rules stand together: the first one of the rule before, or the rule itself.
@@ -65,38 +65,37 @@ fn first_of(table: &[u16], first: u16, rule: u16) -> u16
 }
 
 // Writes a rule: its ruleset, its number there, its pattern, and the encoding if it is a top one.
-fn show_rule(table: &[u16], rule: u16, number: usize) {
-    tell(b"    %.%  ", ruleset_of(table, rule), number, 0);
-    put_pattern(table, rule);
+fn show_rule<W: Write>(out: &mut W, table: &[u16], rule: u16, number: usize) -> io::Result<()> {
+    tell(out, b"    %.%  ", ruleset_of(table, rule), number, 0)?;
+    put_pattern(out, table, rule)?;
     if is_top_rule(table, rule) {
-        put_encoding(number);
+        put_encoding(out, number)?;
     }
-    say(b"\n");
+    say(out, b"\n")
 }
 
-fn put_encoding(rule: usize) {
+fn put_encoding<W: Write>(out: &mut W, rule: usize) -> io::Result<()> {
     let fits = fits_of(rule);
     if fits == NONE {
-        tell(b": % bits", bits_of(rule), 0, 0);
+        tell(out, b": % bits", bits_of(rule), 0, 0)
     } else {
-        tell(b": % bits, fits % signed bits", bits_of(rule), fits, 0);
+        tell(out, b": % bits, fits % signed bits", bits_of(rule), fits, 0)
     }
 }
 
-fn put_pattern(table: &[u16], rule: u16) {
+fn put_pattern<W: Write>(out: &mut W, table: &[u16], rule: u16) -> io::Result<()> {
     let parts = parts_of(table, rule);
-    let mut at = parts.at;
-    while at < parts.end {
-        put_part(part_at(table, at));
-        at += 1;
+    for at in parts.at..parts.end {
+        put_part(out, part_at(table, at))?;
     }
+    Ok(())
 }
 
-fn put_part(part: Part) {
+fn put_part<W: Write>(out: &mut W, part: Part) -> io::Result<()> {
     match part {
-        Part::Exact(byte) => say(&[byte]),
-        Part::Whitespace => say(b" "),
-        Part::Expression => say(b"{value}"),
-        Part::Nested(set) => tell(b"{ruleset %}", set, 0, 0),
+        Part::Exact(byte) => say(out, &[byte]),
+        Part::Whitespace => say(out, b" "),
+        Part::Expression => say(out, b"{value}"),
+        Part::Nested(set) => tell(out, b"{ruleset %}", set, 0, 0),
     }
 }

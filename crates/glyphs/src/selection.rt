@@ -4,6 +4,8 @@ use crate::reading::Reading;
 use crate::rules::bits_of;
 use crate::show::{say, tell};
 use resolver::instruction::{Selection, resolve_encoding};
+use std::io;
+use std::io::Write;
 
 // The most readings that a line has under this table.
 const MOST: usize = 2;
@@ -19,77 +21,81 @@ struct Outcomes {
 }
 
 // Writes an outcome.
-fn put_outcome(word: u32) {
+fn put_outcome<W: Write>(out: &mut W, word: u32) -> io::Result<()> {
     if word == FAILED {
-        say(b" fails");
-        return;
+        return say(out, b" fails");
     }
     let size = (word / SIZE_UNIT) as usize;
     if word % 2 == 1 {
-        tell(b" guess of % bits", size, 0, 0);
+        tell(out, b" guess of % bits", size, 0, 0)
     } else {
-        tell(b" % bits", size, 0, 0);
+        tell(out, b" % bits", size, 0, 0)
     }
 }
 
 // Writes the rules that are chosen, all of ruleset 0, and the size that they share.
-fn put_choice(o: Outcomes, chosen: u16, count: usize) {
+fn put_choice<W: Write>(out: &mut W, o: Outcomes, chosen: u16, count: usize) -> io::Result<()> {
     if count == MOST {
-        tell(
+        return tell(
+            out,
             b" -> 0.% and 0.%, % bits\n",
             o.rule,
             o.other,
             bits_of(o.rule),
         );
-        return;
     }
     let rule = if chosen == 0 { o.rule } else { o.other };
-    tell(b" -> 0.%, % bits\n", rule, bits_of(rule), 0);
+    tell(out, b" -> 0.%, % bits\n", rule, bits_of(rule), 0)
 }
 
 // Writes why none is chosen. On a guessing pass there is another pass to come.
-fn put_none(answer: Selection, last: bool) {
-    say(b" -> ");
+fn put_none<W: Write>(out: &mut W, answer: Selection, last: bool) -> io::Result<()> {
+    say(out, b" -> ")?;
     if last {
-        say(b"the build stops, ");
+        say(out, b"the build stops, ")?;
     }
     match answer {
-        Selection::NoneResolved => say(b"number 11: none resolved\n"),
-        Selection::NoneKnown => say(b"number 12: none known\n"),
-        Selection::Tied { count } => tell(b"number 13: % tied\n", count, 0, 0),
-        _ => say(b"none chosen\n"),
+        Selection::NoneResolved => say(out, b"number 11: none resolved\n"),
+        Selection::NoneKnown => say(out, b"number 12: none known\n"),
+        Selection::Tied { count } => tell(out, b"number 13: % tied\n", count, 0, 0),
+        _ => say(out, b"none chosen\n"),
     }
 }
 
 // A pass: the readings' outcomes, and which are chosen. False if none is.
-fn pass(o: Outcomes, last: bool) -> bool {
+fn pass<W: Write>(out: &mut W, o: Outcomes, last: bool) -> io::Result<bool> {
     let count = o.count;
-    put_outcome(o.first);
+    put_outcome(out, o.first)?;
     if count == MOST {
-        say(b" |");
-        put_outcome(o.second);
+        say(out, b" |")?;
+        put_outcome(out, o.second)?;
     }
     if MOST < count {
-        tell(b" -> none is chosen among % readings\n", count, 0, 0);
-        return false;
+        tell(out, b" -> none is chosen among % readings\n", count, 0, 0)?;
+        return Ok(false);
     }
     let mut words = [o.first, o.second];
     let mut chosen = [0u16; MOST];
     let answer = resolve_encoding(&mut words[0..count], last, &mut chosen);
     match answer {
         Selection::Chosen { count } => {
-            put_choice(o, chosen[0], count);
-            true
+            put_choice(out, o, chosen[0], count)?;
+            Ok(true)
         }
         _ => {
-            put_none(answer, last);
-            false
+            put_none(out, answer, last)?;
+            Ok(false)
         }
     }
 }
 
 // Writes what is chosen on a guessing pass, and on the last. Says whether the last pass chooses one.
-pub fn choose(first: Reading, second: Reading, count: usize) -> bool {
+pub fn choose<W: Write>(
+    out: &mut W,
+    first: Reading,
+    second: Reading,
+    count: usize,
+) -> io::Result<bool> {
     let mut o = Outcomes {
         count,
         rule: first.rule,
@@ -97,10 +103,10 @@ pub fn choose(first: Reading, second: Reading, count: usize) -> bool {
         first: first.guessing,
         second: second.guessing,
     };
-    say(b"    guessing pass:");
-    pass(o, false);
+    say(out, b"    guessing pass:")?;
+    pass(out, o, false)?;
     o.first = first.last;
     o.second = second.last;
-    say(b"    last pass:    ");
-    pass(o, true)
+    say(out, b"    last pass:    ")?;
+    pass(out, o, true)
 }

@@ -3,9 +3,9 @@
 #![tactic(auto)]
 
 use line::LineCheck;
+use std::io;
+use std::io::{BufWriter, Write};
 use syntax::walker::{Lookahead, Walker};
-
-const OUT: i32 = 1;
 
 // Rules: `mov` and whitespace; `mo`; whitespace; `m` of a nested ruleset; `movab`.
 const OVERLAPS: [u16; 33] = [
@@ -19,221 +19,231 @@ const T: [u16; 29] = [
     256, 513, 112, 113,
 ];
 
-fn say(text: &[u8]) {
-    io::write_all(OUT, text);
+fn say<W: Write>(out: &mut W, text: &[u8]) -> io::Result<()> {
+    out.write_all(text)
 }
 
-fn say_number(n: usize) {
-    io::print_decimal(OUT, n as u64);
+fn say_number<W: Write>(out: &mut W, n: usize) -> io::Result<()> {
+    write!(out, "{n}")
 }
 
 // The cut for a byte in a whole line.
-fn cut(line: &[u8], wanted: u8) {
-    say(b"cut for ");
-    io::write_all(OUT, &[wanted]);
-    say(b" in ");
-    say(line);
-    say(b": ");
+fn cut<W: Write>(out: &mut W, line: &[u8], wanted: u8) -> io::Result<()> {
+    say(out, b"cut for ")?;
+    say(out, &[wanted])?;
+    say(out, b" in ")?;
+    say(out, line)?;
+    say(out, b": ")?;
     match Walker::new(line).find_lookahead_char_index(line, wanted) {
-        Lookahead::At(place) => say_number(place),
-        Lookahead::Nothing => say(b"none"),
+        Lookahead::At(place) => say_number(out, place)?,
+        Lookahead::Nothing => say(out, b"none")?,
     }
-    say(b"\n");
+    say(out, b"\n")
 }
 
-fn cuts() {
-    cut(b"a+b", b'+');
-    cut(b"+a+b", b'+');
-    cut(b"(a+b)+c", b'+');
-    cut(b"a)+b", b'+');
-    cut(b"(})+", b'+');
-    cut(b"a)+b", b')');
-    cut(b"(a))", b')');
-    cut(b"((", b'(');
-    cut(b"-1-2", b'-');
-    cut(b"{(})+)}+", b'+');
-    cut(b"1 X 2", b'x');
+fn cuts<W: Write>(out: &mut W) -> io::Result<()> {
+    cut(out, b"a+b", b'+')?;
+    cut(out, b"+a+b", b'+')?;
+    cut(out, b"(a+b)+c", b'+')?;
+    cut(out, b"a)+b", b'+')?;
+    cut(out, b"(})+", b'+')?;
+    cut(out, b"a)+b", b')')?;
+    cut(out, b"(a))", b')')?;
+    cut(out, b"((", b'(')?;
+    cut(out, b"-1-2", b'-')?;
+    cut(out, b"{(})+)}+", b'+')?;
+    cut(out, b"1 X 2", b'x')
 }
 
 // The first bytes of some.
-fn say_first(bytes: &[u8], count: usize) {
+fn say_first<W: Write>(out: &mut W, bytes: &[u8], count: usize) -> io::Result<()> {
     if count <= bytes.len() {
-        say(&bytes[..count]);
+        say(out, &bytes[..count])?;
     }
+    Ok(())
 }
 
-fn line_prefix(line: &[u8]) {
+fn line_prefix<W: Write>(out: &mut W, line: &[u8]) -> io::Result<()> {
     let prefix = ruledef_map::parse_prefix(line);
     let bytes = prefix.bytes;
-    say(b"prefix of ");
-    say(line);
-    say(b": ");
-    say_first(&bytes, prefix.count);
-    say(b"\n");
+    say(out, b"prefix of ")?;
+    say(out, line)?;
+    say(out, b": ")?;
+    say_first(out, &bytes, prefix.count)?;
+    say(out, b"\n")
 }
 
-fn say_rule(rule: u16) {
-    say(b" ");
-    say_number(rule as usize);
+fn say_rule<W: Write>(out: &mut W, rule: u16) -> io::Result<()> {
+    say(out, b" ")?;
+    say_number(out, rule as usize)
 }
 
 // The first rules of some.
-fn say_rules(rules: &[u16], count: usize) {
-    let mut i: usize = 0;
-    while i < count {
-        if rules.len() <= i {
-            return;
-        }
-        say_rule(rules[i]);
-        i += 1;
+fn say_rules<W: Write>(out: &mut W, rules: &[u16], count: usize) -> io::Result<()> {
+    for rule in rules.iter().take(count) {
+        say_rule(out, *rule)?;
     }
+    Ok(())
 }
 
 // The rules that a lookup tries on a line.
-fn found(table: &[u16], line: &[u8]) {
+fn found<W: Write>(out: &mut W, table: &[u16], line: &[u8]) -> io::Result<()> {
     let mut rules = [0u16; 16];
     let count = ruledef_map::query_prefixed(table, ruledef_map::parse_prefix(line), &mut rules);
-    say(b"rules for ");
-    say(line);
-    say(b":");
-    say_rules(&rules, count);
-    say(b"\n");
+    say(out, b"rules for ")?;
+    say(out, line)?;
+    say(out, b":")?;
+    say_rules(out, &rules, count)?;
+    say(out, b"\n")
 }
 
-fn prefixes() {
-    line_prefix(b"  MoV p");
-    line_prefix(b"a\tB");
-    found(&OVERLAPS, b"mov p");
-    found(&OVERLAPS, b"MO");
-    found(&OVERLAPS, b"mo vab");
-    found(&OVERLAPS, b"");
+fn prefixes<W: Write>(out: &mut W) -> io::Result<()> {
+    line_prefix(out, b"  MoV p")?;
+    line_prefix(out, b"a\tB")?;
+    found(out, &OVERLAPS, b"mov p")?;
+    found(out, &OVERLAPS, b"MO")?;
+    found(out, &OVERLAPS, b"mo vab")?;
+    found(out, &OVERLAPS, b"")
 }
 
-fn checked(line: &[u8]) {
-    say(b"line of ");
-    say_number(line.len());
-    say(b": ");
+fn checked<W: Write>(out: &mut W, line: &[u8]) -> io::Result<()> {
+    say(out, b"line of ")?;
+    say_number(out, line.len())?;
+    say(out, b": ")?;
     match line::check_line(line) {
-        LineCheck::Good => say(b"good\n"),
+        LineCheck::Good => say(out, b"good\n"),
         LineCheck::Bad { place } => {
-            say(b"3 at ");
-            say_number(place);
-            say(b"\n");
+            say(out, b"3 at ")?;
+            say_number(out, place)?;
+            say(out, b"\n")
         }
     }
 }
 
-fn lines() {
-    checked(b"");
-    checked(b"mov p");
-    checked(b"a\tb");
-    checked(b" ");
-    checked(b"ab ");
-    checked(b"a;b");
-    checked(b"a\x01b;");
-    checked(b"a\rb");
-    checked(b"ab\r");
-    checked(b"\r");
-    checked(b"a\nb");
-    checked(b"caf\xe9");
-    checked(&[97u8; 120]);
-    checked(&[97u8; 121]);
-    checked(&[59u8; 130]);
+fn lines<W: Write>(out: &mut W) -> io::Result<()> {
+    checked(out, b"")?;
+    checked(out, b"mov p")?;
+    checked(out, b"a\tb")?;
+    checked(out, b" ")?;
+    checked(out, b"ab ")?;
+    checked(out, b"a;b")?;
+    checked(out, b"a\x01b;")?;
+    checked(out, b"a\rb")?;
+    checked(out, b"ab\r")?;
+    checked(out, b"\r")?;
+    checked(out, b"a\nb")?;
+    checked(out, b"caf\xe9")?;
+    checked(out, &[97u8; 120])?;
+    checked(out, &[97u8; 121])?;
+    checked(out, &[59u8; 130])
 }
 
-fn tabled(what: &[u8], table: &[u16]) {
-    say(what);
+fn tabled<W: Write>(out: &mut W, what: &[u8], table: &[u16]) -> io::Result<()> {
+    say(out, what)?;
     if acceptance::check_table(table) {
-        say(b": good\n");
+        say(out, b": good\n")
     } else {
-        say(b": 2\n");
+        say(out, b": 2\n")
     }
 }
 
-fn good_tables() {
-    tabled(b"table T", &T);
-    tabled(b"one empty rule", &[1, 1, 0, 0, 0, 0, 0]);
-    tabled(b"no rule, a spare part", &[1, 0, 1, 0, 97]);
+fn good_tables<W: Write>(out: &mut W) -> io::Result<()> {
+    tabled(out, b"table T", &T)?;
+    tabled(out, b"one empty rule", &[1, 1, 0, 0, 0, 0, 0])?;
+    tabled(out, b"no rule, a spare part", &[1, 0, 1, 0, 97])?;
     tabled(
+        out,
         b"shared parts",
         &[1, 2, 4, 0, 0, 0, 2, 0, 1, 2, 97, 98, 99, 100],
-    );
+    )
 }
 
-fn bad_records() {
-    tabled(b"no word", &[]);
-    tabled(b"one word", &[1]);
-    tabled(b"no ruleset", &[0, 0, 0]);
-    tabled(b"a word too few", &[1, 1, 1, 0, 0, 0, 1]);
-    tabled(b"a word too many", &[1, 0, 0, 0, 0]);
-    tabled(b"flag 2", &[1, 0, 0, 2]);
-    tabled(b"ruleset not below S", &[1, 1, 0, 0, 1, 0, 0]);
-    tabled(b"rulesets that fall", &[2, 2, 0, 0, 0, 1, 0, 0, 0, 0, 0]);
-    tabled(b"range past P", &[1, 1, 1, 0, 0, 1, 1, 97]);
-    tabled(b"empty range past P", &[1, 1, 1, 0, 0, 2, 0, 97]);
-    tabled(b"first 65535, count 1", &[1, 1, 1, 0, 0, 65535, 1, 97]);
+fn bad_records<W: Write>(out: &mut W) -> io::Result<()> {
+    tabled(out, b"no word", &[])?;
+    tabled(out, b"one word", &[1])?;
+    tabled(out, b"no ruleset", &[0, 0, 0])?;
+    tabled(out, b"a word too few", &[1, 1, 1, 0, 0, 0, 1])?;
+    tabled(out, b"a word too many", &[1, 0, 0, 0, 0])?;
+    tabled(out, b"flag 2", &[1, 0, 0, 2])?;
+    tabled(out, b"ruleset not below S", &[1, 1, 0, 0, 1, 0, 0])?;
     tabled(
+        out,
+        b"rulesets that fall",
+        &[2, 2, 0, 0, 0, 1, 0, 0, 0, 0, 0],
+    )?;
+    tabled(out, b"range past P", &[1, 1, 1, 0, 0, 1, 1, 97])?;
+    tabled(out, b"empty range past P", &[1, 1, 1, 0, 0, 2, 0, 97])?;
+    tabled(out, b"first 65535, count 1", &[1, 1, 1, 0, 0, 65535, 1, 97])?;
+    tabled(
+        out,
         b"counts past P in sum",
         &[1, 2, 3, 0, 0, 0, 2, 0, 0, 2, 97, 98, 99],
-    );
+    )
 }
 
-fn parts() {
+fn parts<W: Write>(out: &mut W) -> io::Result<()> {
     tabled(
+        out,
         b"nine parameters",
         &[
             1, 1, 9, 0, 0, 0, 9, 257, 257, 257, 257, 257, 257, 257, 257, 257,
         ],
-    );
+    )?;
     tabled(
+        out,
         b"eight parameters",
         &[1, 1, 8, 0, 0, 0, 8, 257, 257, 257, 257, 257, 257, 257, 257],
-    );
-    tabled(b"part 13", &[1, 0, 1, 0, 13]);
-    tabled(b"part 32", &[1, 0, 1, 0, 32]);
-    tabled(b"part 59", &[1, 0, 1, 0, 59]);
-    tabled(b"part 127", &[1, 0, 1, 0, 127]);
-    tabled(b"part 258", &[1, 0, 1, 0, 258]);
-    tabled(b"part 511", &[1, 0, 1, 0, 511]);
-    tabled(b"part of no ruleset", &[1, 0, 1, 0, 513]);
+    )?;
+    tabled(out, b"part 13", &[1, 0, 1, 0, 13])?;
+    tabled(out, b"part 32", &[1, 0, 1, 0, 32])?;
+    tabled(out, b"part 59", &[1, 0, 1, 0, 59])?;
+    tabled(out, b"part 127", &[1, 0, 1, 0, 127])?;
+    tabled(out, b"part 258", &[1, 0, 1, 0, 258])?;
+    tabled(out, b"part 511", &[1, 0, 1, 0, 511])?;
+    tabled(out, b"part of no ruleset", &[1, 0, 1, 0, 513])
 }
 
-fn sheeted(what: &[u8], sheet: &[u8], n: usize) {
-    say(what);
+fn sheeted<W: Write>(out: &mut W, what: &[u8], sheet: &[u8], n: usize) -> io::Result<()> {
+    say(out, what)?;
     if extents::check_sheet(sheet, n) {
-        say(b": good\n");
+        say(out, b": good\n")
     } else {
-        say(b": 4\n");
+        say(out, b": 4\n")
     }
 }
 
-fn sheets() {
-    sheeted(b"sheet of the empty line", &[255, 0], 0);
+fn sheets<W: Write>(out: &mut W) -> io::Result<()> {
+    sheeted(out, b"sheet of the empty line", &[255, 0], 0)?;
     sheeted(
+        out,
         b"any byte where the start is above the limit",
         &[0, 1, 77, 255, 255, 255, 0, 1],
         1,
-    );
-    sheeted(b"a byte too few", &[255], 0);
-    sheeted(b"a byte too many", &[255, 255, 255], 0);
+    )?;
+    sheeted(out, b"a byte too few", &[255], 0)?;
+    sheeted(out, b"a byte too many", &[255, 255, 255], 0)?;
     sheeted(
+        out,
         b"an end past its limit",
         &[1, 1, 255, 255, 255, 255, 255, 255],
         1,
-    );
+    )?;
     sheeted(
+        out,
         b"an end before its start",
         &[255, 255, 255, 255, 255, 255, 255, 0],
         1,
-    );
+    )
 }
 
-fn main() {
-    cuts();
-    prefixes();
-    lines();
-    good_tables();
-    bad_records();
-    parts();
-    sheets();
+fn main(rt: HostRuntime) -> io::Result<()> {
+    let mut out = BufWriter::new(rt.alloc(), io::writer(&rt))?;
+    cuts(&mut out)?;
+    prefixes(&mut out)?;
+    lines(&mut out)?;
+    good_tables(&mut out)?;
+    bad_records(&mut out)?;
+    parts(&mut out)?;
+    sheets(&mut out)?;
+    out.flush()
 }

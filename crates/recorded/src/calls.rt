@@ -1,10 +1,12 @@
 // A call: its parts are read one by one, each into an array of its own, and then it is made. A function here that returns
 // a bool says whether to go on: a part that its array has no room for stops the replay.
-ghost use Rattle.io.specs.Counts.{IsPrefixLen};
+ghost use Rattle.std.specs.Prelude.{◌≡◌, ◌≤◌, length, take};
 
 use crate::input::{read_line, read_list, read_sheet};
 use crate::output::{tell, tell_selection};
 use sample::{at_most, copy_name, length, number, read_words, say, words_of};
+use std::io;
+use std::io::{Read, Write};
 use tholdrimash::TholdrimashAnswer;
 
 // What the arrays have room for. A table, a line, a sheet and a list may be longer than the longest good ones.
@@ -38,9 +40,9 @@ struct Asked {
     room: usize,
 }
 
-fn too_long() -> bool {
-    say(b" too long\n");
-    false
+fn too_long<W: Write>(out: &mut W) -> io::Result<bool> {
+    say(out, b" too long\n")?;
+    Ok(false)
 }
 
 fn answer(
@@ -63,112 +65,148 @@ fn answer(
     tholdrimash::tholdrimash_match(table, line, sheet, asked.budget, asked.base, buffer)
 }
 
-fn matching(asked: Asked, table: &[u16], line: &[u8], sheet: &[u8], buffer: &mut [u32]) {
+fn matching<W: Write>(
+    out: &mut W,
+    asked: Asked,
+    table: &[u16],
+    line: &[u8],
+    sheet: &[u8],
+    buffer: &mut [u32],
+) -> io::Result<()> {
     let answer = answer(asked, table, line, sheet, buffer);
-    tell(answer, buffer);
+    tell(out, answer, buffer)
 }
 
 // So many words of an answer's buffer, or all that it has.
 fn room_of(buffer: &[u32], wanted: usize) -> usize
-    ensures { IsPrefixLen result buffer.now }
+    ensures bound { result ≤ length buffer.now }
+    ensures prefix { result ≡ length (take result buffer.now) }
 {
     at_most(wanted, buffer.len())
 }
 
-fn with_sheet(asked: Asked, table: &[u16], line: &[u8], sheet: &[u8]) -> bool {
+fn with_sheet<W: Write>(
+    out: &mut W,
+    asked: Asked,
+    table: &[u16],
+    line: &[u8],
+    sheet: &[u8],
+) -> io::Result<bool> {
     let mut buffer = [UNTOUCHED; ANSWER];
     let n = room_of(&buffer, asked.room);
     if n < asked.room {
-        return too_long();
+        return too_long(out);
     }
-    matching(asked, table, line, sheet, &mut buffer[..n]);
-    true
+    matching(out, asked, table, line, sheet, &mut buffer[..n])?;
+    Ok(true)
 }
 
-fn with_line(asked: Asked, table: &[u16], line: &[u8]) -> bool {
+fn with_line<R: Read, W: Write>(
+    input: &mut R,
+    out: &mut W,
+    asked: Asked,
+    table: &[u16],
+    line: &[u8],
+) -> io::Result<bool> {
     let mut sheet = [NO_END; SHEET];
-    let wanted = length();
-    let n = read_sheet(&mut sheet, wanted);
+    let wanted = length(input)?;
+    let n = read_sheet(input, &mut sheet, wanted)?;
     if n < wanted {
-        return too_long();
+        return too_long(out);
     }
-    with_sheet(asked, table, line, &sheet[..n])
+    with_sheet(out, asked, table, line, &sheet[..n])
 }
 
-fn with_table(asked: Asked, table: &[u16]) -> bool {
+fn with_table<R: Read, W: Write>(
+    input: &mut R,
+    out: &mut W,
+    asked: Asked,
+    table: &[u16],
+) -> io::Result<bool> {
     let mut line = [0u8; LINE];
-    let wanted = length();
-    let n = read_line(&mut line, wanted);
+    let wanted = length(input)?;
+    let n = read_line(input, &mut line, wanted)?;
     if n < wanted {
-        return too_long();
+        return too_long(out);
     }
-    with_line(asked, table, &line[..n])
+    with_line(input, out, asked, table, &line[..n])
 }
 
-fn with_asked(asked: Asked) -> bool {
+fn with_asked<R: Read, W: Write>(input: &mut R, out: &mut W, asked: Asked) -> io::Result<bool> {
     let mut table = [0u16; TABLE];
-    let wanted = length();
-    let n = read_words(&mut table, wanted);
+    let wanted = length(input)?;
+    let n = read_words(input, &mut table, wanted)?;
     if n < wanted {
-        return too_long();
+        return too_long(out);
     }
-    with_table(asked, &table[..n])
+    with_table(input, out, asked, &table[..n])
 }
 
 // A full scan or a lookup.
-fn match_call(lookup: bool) -> bool {
-    let budget = number();
-    let base = number();
-    let room = length();
-    with_asked(Asked {
+fn match_call<R: Read, W: Write>(input: &mut R, out: &mut W, lookup: bool) -> io::Result<bool> {
+    let budget = number(input)?;
+    let base = number(input)?;
+    let room = length(input)?;
+    let asked = Asked {
         lookup,
         budget,
         base,
         room,
-    })
+    };
+    with_asked(input, out, asked)
 }
 
-fn select(last: u32, list: &mut [u32], buffer: &mut [u16]) {
+fn select<W: Write>(
+    out: &mut W,
+    last: u32,
+    list: &mut [u32],
+    buffer: &mut [u16],
+) -> io::Result<()> {
     let selection = tholdrimash::tholdrimash_select(list, last, buffer);
-    tell_selection(selection, list, buffer);
+    tell_selection(out, selection, list, buffer)
 }
 
-fn with_list(last: u32, wanted: usize, list: &mut [u32]) -> bool {
+fn with_list<W: Write>(
+    out: &mut W,
+    last: u32,
+    wanted: usize,
+    list: &mut [u32],
+) -> io::Result<bool> {
     let mut buffer = [NO_INDEX; CHOICE];
     let n = words_of(&buffer, wanted);
     if n < wanted {
-        return too_long();
+        return too_long(out);
     }
-    select(last, list, &mut buffer[..n]);
-    true
+    select(out, last, list, &mut buffer[..n])?;
+    Ok(true)
 }
 
 // A selection. `last` is 0 on a guessing pass.
-fn select_call(last: u32) -> bool {
-    let room = length();
+fn select_call<R: Read, W: Write>(input: &mut R, out: &mut W, last: u32) -> io::Result<bool> {
+    let room = length(input)?;
     let mut list = [0u32; LIST];
-    let wanted = length();
-    let n = read_list(&mut list, wanted);
+    let wanted = length(input)?;
+    let n = read_list(input, &mut list, wanted)?;
     if n < wanted {
-        return too_long();
+        return too_long(out);
     }
-    with_list(last, room, &mut list[..n])
+    with_list(out, last, room, &mut list[..n])
 }
 
 // The next call, if there is one.
-pub fn replay() -> bool {
-    if !copy_name() {
-        return false;
+pub fn replay<R: Read, W: Write>(input: &mut R, out: &mut W) -> io::Result<bool> {
+    if !copy_name(input, out)? {
+        return Ok(false);
     }
-    let how = number();
+    let how = number(input)?;
     match how {
-        0 => match_call(false),
-        1 => match_call(true),
-        2 => select_call(0),
-        3 => select_call(1),
+        0 => match_call(input, out, false),
+        1 => match_call(input, out, true),
+        2 => select_call(input, out, 0),
+        3 => select_call(input, out, 1),
         _ => {
-            say(b" no such call\n");
-            false
+            say(out, b" no such call\n")?;
+            Ok(false)
         }
     }
 }

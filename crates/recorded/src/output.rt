@@ -1,47 +1,52 @@
-// What a call returned, on standard output.
+// What a call returned, on the output.
 use sample::{put, say};
+use std::io;
+use std::io::Write;
 use tholdrimash::{TholdrimashAnswer, TholdrimashSelection};
 
-fn put_word(word: u16) {
-    put(word as u32);
+fn put_word<W: Write>(out: &mut W, word: u16) -> io::Result<()> {
+    put(out, word as u32)
 }
 
 // Writes the words of a choice's buffer, all of them: the indices chosen and the words that they leave.
-fn put_buffer(buffer: &[u16]) {
-    let mut i: usize = 0;
-    while i < buffer.len() {
-        put_word(buffer[i]);
-        i += 1;
+fn put_buffer<W: Write>(out: &mut W, buffer: &[u16]) -> io::Result<()> {
+    for word in buffer {
+        put_word(out, *word)?;
     }
+    Ok(())
 }
 
 // The same of outcome words and of an answer's buffer.
-fn put_list(list: &[u32]) {
-    let mut i: usize = 0;
-    while i < list.len() {
-        put(list[i]);
-        i += 1;
+fn put_list<W: Write>(out: &mut W, list: &[u32]) -> io::Result<()> {
+    for word in list {
+        put(out, *word)?;
     }
+    Ok(())
 }
 
 // Number, visits, words and place, then the buffer.
-pub fn tell(answer: TholdrimashAnswer, buffer: &[u32]) {
-    put(answer.number);
-    put(answer.visits);
-    put(answer.words);
-    put(answer.place);
-    say(b" |");
-    put_list(buffer);
-    say(b"\n");
+pub fn tell<W: Write>(out: &mut W, answer: TholdrimashAnswer, buffer: &[u32]) -> io::Result<()> {
+    put(out, answer.number)?;
+    put(out, answer.visits)?;
+    put(out, answer.words)?;
+    put(out, answer.place)?;
+    say(out, b" |")?;
+    put_list(out, buffer)?;
+    say(out, b"\n")
 }
 
 // Number and count, then the outcome words and the buffer.
-pub fn tell_selection(selection: TholdrimashSelection, list: &[u32], buffer: &[u16]) {
-    put(selection.number);
-    put(selection.count);
-    say(b" |");
-    put_list(list);
-    say(b" |");
-    put_buffer(buffer);
-    say(b"\n");
+pub fn tell_selection<W: Write>(
+    out: &mut W,
+    selection: TholdrimashSelection,
+    list: &[u32],
+    buffer: &[u16],
+) -> io::Result<()> {
+    put(out, selection.number)?;
+    put(out, selection.count)?;
+    say(out, b" |")?;
+    put_list(out, list)?;
+    say(out, b" |")?;
+    put_buffer(out, buffer)?;
+    say(out, b"\n")
 }

@@ -5,6 +5,8 @@ use crate::output::{UNTOUCHED_BYTE, UNTOUCHED_WORD, tell_read, tell_written};
 use listing::reading::read_table;
 use listing::writing::write_table;
 use sample::{copy_name, length, read_words, say, words_of};
+use std::io;
+use std::io::{Read, Write};
 
 // What the arrays have room for. A table has at most 9,763 words and a listing at most 41,440 bytes: these are some more, so
 // that a table or a text that passes a limit can be lent too.
@@ -12,74 +14,74 @@ const WORDS: usize = 10_000;
 
 const BYTES: usize = 45_000;
 
-fn too_long() -> bool {
-    say(b" too long\n");
-    false
+fn too_long<W: Write>(out: &mut W) -> io::Result<bool> {
+    say(out, b" too long\n")?;
+    Ok(false)
 }
 
-fn reading(text: &[u8], room: &mut [u16]) {
+fn reading<W: Write>(out: &mut W, text: &[u8], room: &mut [u16]) -> io::Result<()> {
     let answer = read_table(text, room);
-    tell_read(answer, room);
+    tell_read(out, answer, room)
 }
 
-fn with_text(wanted: usize, text: &[u8]) -> bool {
+fn with_text<W: Write>(out: &mut W, wanted: usize, text: &[u8]) -> io::Result<bool> {
     let mut room = [UNTOUCHED_WORD; WORDS];
     let n = words_of(&room, wanted);
     if n < wanted {
-        return too_long();
+        return too_long(out);
     }
-    reading(text, &mut room[..n]);
-    true
+    reading(out, text, &mut room[..n])?;
+    Ok(true)
 }
 
-fn read_call() -> bool {
-    let room = length();
+fn read_call<R: Read, W: Write>(input: &mut R, out: &mut W) -> io::Result<bool> {
+    let room = length(input)?;
     let mut text = [0u8; BYTES];
-    let n = read_text(&mut text);
+    let n = read_text(input, &mut text)?;
     if n == BYTES {
-        return too_long();
+        return too_long(out);
     }
-    with_text(room, &text[..n])
+    with_text(out, room, &text[..n])
 }
 
-fn writing(table: &[u16], room: &mut [u8]) {
+fn writing<W: Write>(out: &mut W, table: &[u16], room: &mut [u8]) -> io::Result<()> {
     let answer = write_table(table, room);
-    tell_written(answer, room);
+    tell_written(out, answer, room)
 }
 
-fn with_table(wanted: usize, table: &[u16]) -> bool {
+fn with_table<W: Write>(out: &mut W, wanted: usize, table: &[u16]) -> io::Result<bool> {
     let mut room = [UNTOUCHED_BYTE; BYTES];
     let n = bytes_of(&room, wanted);
     if n < wanted {
-        return too_long();
+        return too_long(out);
     }
-    writing(table, &mut room[..n]);
-    true
+    writing(out, table, &mut room[..n])?;
+    Ok(true)
 }
 
-fn write_call() -> bool {
-    let room = length();
+fn write_call<R: Read, W: Write>(input: &mut R, out: &mut W) -> io::Result<bool> {
+    let room = length(input)?;
     let mut table = [0u16; WORDS];
-    let wanted = length();
-    let n = read_words(&mut table, wanted);
+    let wanted = length(input)?;
+    let n = read_words(input, &mut table, wanted)?;
     if n < wanted {
-        return too_long();
+        return too_long(out);
     }
-    with_table(room, &table[..n])
+    with_table(out, room, &table[..n])
 }
 
 // The next case, if there is one. Its call is told by the first byte of its word.
-pub fn replay() -> bool {
-    if !copy_name() {
-        return false;
+pub fn replay<R: Read, W: Write>(input: &mut R, out: &mut W) -> io::Result<bool> {
+    if !copy_name(input, out)? {
+        return Ok(false);
     }
-    let call = word();
+    let call = word(input)?;
     match call {
-        b'r' => read_call(),
-        b'w' => write_call(),
+        b'r' => read_call(input, out),
+        b'w' => write_call(input, out),
         _ => {
-            say(b" no such call\n");
-            false
+            say(out, b" no such call\n")?;
+            Ok(false)
         }
     }
 }

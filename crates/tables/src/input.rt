@@ -1,7 +1,10 @@
-// The parts of a case that only this program has, read from standard input: words, and texts with escapes.
-ghost use Rattle.io.specs.Counts.{IsPrefixLen};
+// The parts of a case that only this program has, read from the input: words, and texts with escapes.
+ghost use Rattle.std.specs.Prelude.{◌≡◌, ◌≤◌, length, take};
+ghost use Rattle.std.specs.Io.{ReadsAtMost};
 
 use sample::{END, TURNS, at_most, byte};
+use std::io;
+use std::io::Read;
 
 // Whether a byte ends a line, as the end of the input does too.
 fn ends_line(b: u8) -> bool {
@@ -12,57 +15,51 @@ fn ends_line(b: u8) -> bool {
 }
 
 // The first byte of the next word, which stands after one space. The space that ends it is read too.
-pub fn word() -> u8 {
-    byte();
-    let first = byte();
-    let mut turns = TURNS;
-    while turns > 0 {
-        turns -= 1;
-        let b = byte();
-        if b == b' ' {
-            return first;
-        }
-        if ends_line(b) {
-            return first;
+pub fn word<R: Read>(input: &mut R) -> io::Result<u8> {
+    byte(input)?;
+    let first = byte(input)?;
+    for _ in 0..TURNS {
+        let b = byte(input)?;
+        if b == b' ' || ends_line(b) {
+            return Ok(first);
         }
     }
-    first
+    Ok(first)
 }
 
 // So many bytes of a room, or all that it has.
 pub fn bytes_of(room: &[u8], wanted: usize) -> usize
-    ensures { IsPrefixLen result room.now }
+    ensures bound { result ≤ length room.now }
+    ensures prefix { result ≡ length (take result room.now) }
 {
     at_most(wanted, room.len())
 }
 
 // What a byte of a text stands for: a backslash takes the next byte with it.
-fn unescaped(b: u8) -> u8 {
+fn unescaped<R: Read>(input: &mut R, b: u8) -> io::Result<u8> {
     if b != b'\\' {
-        return b;
+        return Ok(b);
     }
-    let next = byte();
-    match next {
+    let next = byte(input)?;
+    Ok(match next {
         b't' => b'\t',
         b'n' => b'\n',
         b'r' => b'\r',
         _ => next,
-    }
+    })
 }
 
 // Reads a text to the start of some bytes, up to the line's end, and gives its length; or the length of all the bytes, if
 // they are too few to see that it ends.
-pub fn read_text(text: &mut [u8]) -> usize
-    ensures { IsPrefixLen result text.new }
+pub fn read_text<R: Read>(input: &mut R, text: &mut [u8]) -> io::Result<usize>
+    ensures { ReadsAtMost result text.new }
 {
-    let mut n: usize = 0;
-    while n < text.len() {
-        let b = byte();
+    for n in 0..text.len() {
+        let b = byte(input)?;
         if ends_line(b) {
-            return n;
+            return Ok(n);
         }
-        text[n] = unescaped(b);
-        n += 1;
+        text[n] = unescaped(input, b)?;
     }
-    text.len()
+    Ok(text.len())
 }

@@ -15,9 +15,16 @@ mod calls;
 mod input;
 mod output;
 
-fn main() {
-    let mut turns = sample::TURNS;
-    while turns > 0 && calls::replay() {
-        turns -= 1;
+use std::io;
+use std::io::{BufReader, BufWriter, Write};
+
+fn main(rt: HostRuntime) -> io::Result<()> {
+    let mut input = BufReader::new(rt.alloc(), rt.reader())?;
+    let mut out = BufWriter::new(rt.alloc(), io::writer(&rt))?;
+    for _ in 0..sample::TURNS {
+        if !calls::replay(&mut input, &mut out)? {
+            break;
+        }
     }
+    out.flush()
 }

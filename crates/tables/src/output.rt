@@ -1,7 +1,9 @@
-// What a call returned, on standard output, with the room as it is left.
+// What a call returned, on the output, with the room as it is left.
 use listing::reading::ReadAnswer;
 use listing::writing::WriteAnswer;
 use sample::{put, say};
+use std::io;
+use std::io::Write;
 
 // What stands at each place of a room before a call. No table has this word, and no listing this byte.
 pub const UNTOUCHED_WORD: u16 = 65_535;
@@ -9,67 +11,65 @@ pub const UNTOUCHED_WORD: u16 = 65_535;
 pub const UNTOUCHED_BYTE: u8 = b';';
 
 // An answer's fields that are not always 0, and the stroke before the room.
-fn put_fields(number: u32, words: u32, place: u32) {
-    put(number);
-    put(words);
-    put(place);
-    say(b" |");
+fn put_fields<W: Write>(out: &mut W, number: u32, words: u32, place: u32) -> io::Result<()> {
+    put(out, number)?;
+    put(out, words)?;
+    put(out, place)?;
+    say(out, b" |")
 }
 
-fn put_word(word: u16) {
+fn put_word<W: Write>(out: &mut W, word: u16) -> io::Result<()> {
     if word == UNTOUCHED_WORD {
-        say(b" .");
+        say(out, b" .")
     } else {
-        put(word as u32);
+        put(out, word as u32)
     }
 }
 
-fn put_words(room: &[u16]) {
-    let mut i: usize = 0;
-    while i < room.len() {
-        put_word(room[i]);
-        i += 1;
+fn put_words<W: Write>(out: &mut W, room: &[u16]) -> io::Result<()> {
+    for word in room {
+        put_word(out, *word)?;
     }
+    Ok(())
 }
 
 // Writes a byte, with an escape for one that would not be seen or is an escape's own.
-fn put_byte(b: u8) {
+fn put_byte<W: Write>(out: &mut W, b: u8) -> io::Result<()> {
     match b {
-        b'\t' => say(b"\\t"),
-        b'\n' => say(b"\\n"),
-        b'\r' => say(b"\\r"),
-        b'\\' => say(b"\\\\"),
-        _ => say(&[b]),
+        b'\t' => say(out, b"\\t"),
+        b'\n' => say(out, b"\\n"),
+        b'\r' => say(out, b"\\r"),
+        b'\\' => say(out, b"\\\\"),
+        _ => say(out, &[b]),
     }
 }
 
-fn put_bytes(room: &[u8]) {
-    let mut i: usize = 0;
-    while i < room.len() {
-        put_byte(room[i]);
-        i += 1;
+fn put_bytes<W: Write>(out: &mut W, room: &[u8]) -> io::Result<()> {
+    for b in room {
+        put_byte(out, *b)?;
     }
+    Ok(())
 }
 
-pub fn tell_read(answer: ReadAnswer, room: &[u16]) {
+pub fn tell_read<W: Write>(out: &mut W, answer: ReadAnswer, room: &[u16]) -> io::Result<()> {
     match answer {
-        ReadAnswer::Read { words } => put_fields(0, words, 0),
-        ReadAnswer::BadText { line } => put_fields(15, 0, line),
-        ReadAnswer::NoRoom => put_fields(16, 0, 0),
+        ReadAnswer::Read { words } => put_fields(out, 0, words, 0)?,
+        ReadAnswer::BadText { line } => put_fields(out, 15, 0, line)?,
+        ReadAnswer::NoRoom => put_fields(out, 16, 0, 0)?,
     }
-    put_words(room);
-    say(b"\n");
+    put_words(out, room)?;
+    say(out, b"\n")
 }
 
-pub fn tell_written(answer: WriteAnswer, room: &[u8]) {
+pub fn tell_written<W: Write>(out: &mut W, answer: WriteAnswer, room: &[u8]) -> io::Result<()> {
     match answer {
-        WriteAnswer::Written { bytes } => put_fields(0, bytes, 0),
-        WriteAnswer::BadTable => put_fields(2, 0, 0),
-        WriteAnswer::NoRoom => put_fields(16, 0, 0),
+        WriteAnswer::Written { bytes } => put_fields(out, 0, bytes, 0)?,
+        WriteAnswer::BadTable => put_fields(out, 2, 0, 0)?,
+        WriteAnswer::NoRoom => put_fields(out, 16, 0, 0)?,
     }
-    if room.len() > 0 {
-        say(b" ");
+    if !room.is_empty() {
+        say(out, b" ")?;
     }
-    put_bytes(room);
-    say(b"\n");
+    put_bytes(out, room)?;
+    say(out, b"\n")
 }
