@@ -1,0 +1,34 @@
+use Prim.Native.Nat.{◌-◌}
+use mathlib.Core.Path.{refl}
+use lib.ListN.{length}
+use native.Mathlib.Omega.{arith}
+use Rattle.program.proofs.Running.{Turn, turn-first, turn_more, row_within, used-small, words_small, ends-after, ends-within, sheet-within, running-all, rows-first, used-few}
+use borrow.Author.Rules.{rules}
+use Rattle.program.proofs.run_lines.Goals as goal
+
+pub loop-i-init : goal.loop-i-init
+loop-i-init c = turn-first c.requires.rows_value c.requires.ready.ordered c.requires.store_len
+
+pub overflow_sub-end : goal.overflow_sub-end
+overflow_sub-end c = ends-after _ _ _ _ _ _ c.loop-i.invariant.running c.loop-i-test.true _ refl
+
+pub slice_bounds-run_line-count : goal.slice_bounds-run_line-count
+slice_bounds-run_line-count c = ends-after _ _ _ _ _ _ c.loop-i.invariant.running c.loop-i-test.true _ refl
+
+pub overflow_add-after : goal.overflow_add-after
+overflow_add-after c = omega (arith, used-small c.loop-i.invariant c.loop-i-test.true, words_small c.loop-i.invariant c.loop-i-test.true _ refl _ c.sheet_size.ensures.answers _ _ c.run_line-got.ensures.tells _ c.row_of-told.ensures)
+
+pub loop-i-preserved : goal.loop-i-preserved
+loop-i-preserved c = turn_more c.loop-i.invariant c.loop-i-test.true _ refl _ c.sheet_size.ensures.answers _ _ c.run_line-got.ensures.tells _ c.row_of-told.ensures _ _ _ c.run_line-got.ensures.keeps (omega (arith, c.run_line-got.auto)) refl
+
+pub returns-clause-runs : goal.returns-clause-runs
+returns-clause-runs c = running-all _ _ _ _ _ _ c.loop-i.invariant.running c.loop-i-test.false c.loop-i.invariant.long
+
+pub slice_bounds-run_line-end : goal.slice_bounds-run_line-end
+slice_bounds-run_line-end c = ?
+
+pub slice_bounds-run_line-end-in-loop-i : goal.slice_bounds-run_line-end-in-loop-i
+slice_bounds-run_line-end-in-loop-i c = ?
+
+pub slice_bounds-run_line-start : goal.slice_bounds-run_line-start
+slice_bounds-run_line-start c = ?
