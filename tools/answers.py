@@ -89,6 +89,8 @@ class Function:
         for k in KNOWN:
             if n.startswith(k) and n[len(k):] in self.goals:
                 return self.goals[n[len(k):]]
+        if n.startswith("slicebounds"):
+            return self.goals.get("part" + n[len("slicebounds"):])
         return None
 
 

@@ -15,6 +15,15 @@ overflow_sub-end c = ends-after _ _ _ _ _ _ c.loop-i.invariant.running c.loop-i-
 pub slice_bounds-run_line-count : goal.slice_bounds-run_line-count
 slice_bounds-run_line-count c = ends-after _ _ _ _ _ _ c.loop-i.invariant.running c.loop-i-test.true _ refl
 
+pub slice_bounds-run_line-start : goal.slice_bounds-run_line-start
+slice_bounds-run_line-start c = ends-after _ _ _ _ _ _ c.loop-i.invariant.running c.loop-i-test.true _ refl
+
+pub slice_bounds-run_line-end : goal.slice_bounds-run_line-end
+slice_bounds-run_line-end c = ends-within _ _ _ _ _ _ c.loop-i.invariant.running c.loop-i-test.true _ refl
+
+pub slice_bounds-run_line-end-in-loop-i : goal.slice_bounds-run_line-end-in-loop-i
+slice_bounds-run_line-end-in-loop-i c = sheet-within _ _ _ _ _ _ c.loop-i.invariant.running c.loop-i-test.true _ refl _ c.sheet_size.ensures.answers
+
 pub overflow_add-after : goal.overflow_add-after
 overflow_add-after c = omega (arith, used-small c.loop-i.invariant c.loop-i-test.true, words_small c.loop-i.invariant c.loop-i-test.true _ refl _ c.sheet_size.ensures.answers _ _ c.run_line-got.ensures.tells _ c.row_of-told.ensures)
 
@@ -23,12 +32,3 @@ loop-i-preserved c = turn_more c.loop-i.invariant c.loop-i-test.true _ refl _ c.
 
 pub returns-clause-runs : goal.returns-clause-runs
 returns-clause-runs c = running-all _ _ _ _ _ _ c.loop-i.invariant.running c.loop-i-test.false c.loop-i.invariant.long
-
-pub slice_bounds-run_line-end : goal.slice_bounds-run_line-end
-slice_bounds-run_line-end c = ?
-
-pub slice_bounds-run_line-end-in-loop-i : goal.slice_bounds-run_line-end-in-loop-i
-slice_bounds-run_line-end-in-loop-i c = ?
-
-pub slice_bounds-run_line-start : goal.slice_bounds-run_line-start
-slice_bounds-run_line-start c = ?
