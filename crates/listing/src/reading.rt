@@ -18,7 +18,7 @@ use defs::ruledef;
 use fields::reading::{find, is_word, number, part_word};
 use fields::spelling;
 
-// What reading answers. `readSays` gives each case's number and fields.
+// What reading answers. `read_says` gives each case's number and fields.
 #[derive(Clone, Copy)]
 pub enum ReadAnswer {
     // 0: how many words were written at the room's start.

@@ -14,7 +14,7 @@ use defs::ruledef;
 use fields::spelling;
 use fields::writing::{put, put_number, put_part, put_word};
 
-// What writing answers. `writeSays` gives each case's number and fields.
+// What writing answers. `write_says` gives each case's number and fields.
 #[derive(Clone, Copy)]
 pub enum WriteAnswer {
     // 0: how many bytes were written at the room's start.

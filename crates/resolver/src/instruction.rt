@@ -18,7 +18,7 @@ const MOST_WORDS: usize = 4096;
 // More than any size.
 const NO_SIZE: u32 = 65_536;
 
-// The answer. `selectionSays` gives each case's number and count: 0, 10, 11, 12, 13 and 14, in this order.
+// The answer. `selection_says` gives each case's number and count: 0, 10, 11, 12, 13 and 14, in this order.
 #[derive(Clone, Copy)]
 pub enum Selection {
     Chosen { count: usize },

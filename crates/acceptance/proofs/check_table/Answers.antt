@@ -1,4 +1,4 @@
--- `tableFits`, sentence by sentence: the first that fails decides. Each helper says what the steps so far have told.
+-- `table_fits`, sentence by sentence: the first that fails decides. Each helper says what the steps so far have told.
 use mathlib.Core.Path.{◌≡◌, sym, ◌∙◌}
 use mathlib.Core.Bool.{Bool, true, false}
 use mathlib.Core.List.{List}

@@ -1,4 +1,4 @@
--- `isPart`, by the tests in the order of the numbers.
+-- `is_part`, by the tests in the order of the numbers.
 use Rattle.defs.proofs.Fits.{part_low, part-printed, part-space, part-expr, part-between, part-ruleset}
 use native.Mathlib.Omega.{arith}
 use Rattle.acceptance.proofs.is_part.Goals as goal

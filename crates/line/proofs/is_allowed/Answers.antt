@@ -1,4 +1,4 @@
--- `is_allowed` is `isAllowed`, test by test.
+-- `is_allowed` is `is_allowed`, test by test.
 use mathlib.Core.Path.{◌∙◌}
 use Rattle.line.proofs.Lines.{allowed-low, allowed-high, allowed-printed}
 use borrow.Author.Rules.{rules}

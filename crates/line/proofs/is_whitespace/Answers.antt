@@ -1,4 +1,4 @@
--- `is_whitespace` is `isWhitespace` of a byte that a line may hold.
+-- `is_whitespace` is `is_whitespace` of a byte that a line may hold.
 use Rattle.line.proofs.Lines.{low-white}
 use Rattle.line.proofs.is_whitespace.Goals as goal
 

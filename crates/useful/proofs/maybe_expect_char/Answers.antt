@@ -1,4 +1,4 @@
--- `expectChar`: no byte below the limit, another byte, or the wanted one.
+-- `expect_char`: no byte below the limit, another byte, or the wanted one.
 use mathlib.Core.Path.{sym, ◌∙◌}
 use Rattle.syntax.proofs.Useful.{held_same}
 use Rattle.syntax.proofs.Moves.{expect-past, expect-other, expect-end}

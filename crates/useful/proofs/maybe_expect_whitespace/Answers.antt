@@ -1,4 +1,4 @@
--- `expectWhitespace`: at the limit, at a byte of whitespace, or at another byte.
+-- `expect_whitespace`: at the limit, at a byte of whitespace, or at another byte.
 use mathlib.Core.Path.{sym}
 use mathlib.Core.Bool.{true, false}
 use native.Mathlib.Omega.{arith}

@@ -1,4 +1,4 @@
--- `ruleSpan`, with the words that were read.
+-- `rule_span`, with the words that were read.
 use Rattle.defs.proofs.Words.{span-whole, span-short}
 use borrow.Author.Rules.{rules}
 use Rattle.defs.proofs.ruledef.parts_of.Goals as goal

@@ -1,4 +1,4 @@
--- `expectChar` of the held walker: no byte below the limit, another byte, or the wanted one.
+-- `expect_char` of the held walker: no byte below the limit, another byte, or the wanted one.
 use mathlib.Core.Path.{sym, ◌∙◌}
 use native.Mathlib.Omega.{arith}
 use Rattle.syntax.proofs.Useful.{held-is-within}
