@@ -7,7 +7,6 @@ use native.Mathlib.Omega.{arith}
 use Rattle.plain.proofs.Answers.{one_answer, one_told}
 use Rattle.line.specs.Line.{line_says}
 use Rattle.line.specs.declared.LineCheck.{LineCheck}
-use Rattle.line.specs.declared.LineCheck.TheVariants as LineCheck
 use Rattle.line.proofs.check_line.Reads as check-line
 use Rattle.line.proofs.is_whitespace.Reads as is_whitespace
 

@@ -10,7 +10,7 @@ use lib.Seq.{slice, get_or-append-add, take-append-add, take-append_seam, drop-a
 use borrow.Author.Tests.{leb-true, ltb-true, le-leb, lt-ltb, le-ltb, ne_eqb}
 use Rattle.plain.specs.Choice.{select}
 use Rattle.plain.specs.Below.{sum_below}
-use Rattle.plain.specs.Lists.{range, count, listed, every}
+use Rattle.plain.specs.Lists.{count, listed, every}
 use Rattle.plain.proofs.Below.{every-at, every-all, sum_same}
 use Rattle.plain.proofs.Tests.{and_left, and_right, and_both, or_left, or_right}
 use Rattle.plain.proofs.Every.{every_append, every-last, every-listed, every_map, entry-every}

@@ -25,7 +25,6 @@ use Rattle.syntax.specs.Cut.{is_wanted, is_stray, nesting, passed_to, CutAt, Cut
 use Rattle.syntax.specs.declared.walker.Walker.{Walker}
 use Rattle.syntax.specs.declared.walker.Search.{Search}
 use Rattle.syntax.specs.declared.walker.Turn.{Turn}
-use Rattle.syntax.specs.declared.walker.Turn.TheVariants as Turn
 use Rattle.syntax.proofs.Useful.{InLine, useful-end, useful-here, useful-later, useful-is}
 use Rattle.syntax.proofs.Turns.{turn-wanted, turn-stray, turn_on}
 

@@ -9,9 +9,7 @@ use Rattle.syntax.specs.Walker.{step_says}
 use Rattle.syntax.specs.Cut.{cut_says}
 use Rattle.syntax.specs.declared.walker.Walker.{Walker}
 use Rattle.syntax.specs.declared.walker.Step.{Step}
-use Rattle.syntax.specs.declared.walker.Step.TheVariants as Step
 use Rattle.syntax.specs.declared.walker.Lookahead.{Lookahead}
-use Rattle.syntax.specs.declared.walker.Lookahead.TheVariants as Lookahead
 use Rattle.syntax.proofs.walker.Walker.new.Reads as new
 use Rattle.syntax.proofs.walker.Walker.is_over.Reads as is-over
 use Rattle.syntax.proofs.walker.Walker.get_cursor_index.Reads as get-cursor-index

@@ -13,7 +13,6 @@ use Rattle.token.proofs.Bytes.{class-kind, kind-small, bracket_of, kind-bracket,
 use Rattle.syntax.specs.Cut.{is_wanted, is_stray, taken_in, turn_of}
 use Rattle.syntax.specs.declared.walker.Search.{Search}
 use Rattle.syntax.specs.declared.walker.Turn.{Turn}
-use Rattle.syntax.specs.declared.walker.Turn.TheVariants as Turn
 use Rattle.syntax.proofs.Marks.{marked_class}
 
 pub turn-wanted : (x b : ℕ) (s : Search) → is_wanted x b s ≡ true → turn_of x b s ≡ Turn.Cut

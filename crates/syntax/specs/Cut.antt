@@ -10,9 +10,7 @@ use Rattle.syntax.specs.Walker.{byte_at}
 use Rattle.syntax.specs.declared.walker.Walker.{Walker}
 use Rattle.syntax.specs.declared.walker.Search.{Search}
 use Rattle.syntax.specs.declared.walker.Turn.{Turn}
-use Rattle.syntax.specs.declared.walker.Turn.TheVariants as Turn
 use Rattle.syntax.specs.declared.walker.Lookahead.{Lookahead}
-use Rattle.syntax.specs.declared.walker.Lookahead.TheVariants as Lookahead
 
 -- the byte is the wanted one, case ignored, after some non-whitespace byte has passed and with both nestings at zero
 unfoldable pub is_wanted : ℕ → ℕ → Search → Bool

@@ -1,12 +1,8 @@
-use mathlib.Core.Path.{◌≡◌, sym, ◌∙◌}
-use mathlib.Core.Bool.{true, ◌&&◌}
-use Prim.Native.Nat.{ℕ, ◌+◌, ◌-◌}
+use mathlib.Core.Path.{sym, ◌∙◌}
 use native.Mathlib.Omega.{arith}
-use Rattle.plain.specs.Below.{every_below}
 use Rattle.plain.proofs.Below.{every-none, every-step, every-fails, every-fewer, every-and}
 use Rattle.plain.proofs.Calls.{refused, passed}
-use Rattle.extents.specs.Sheet.{row_fits, half_fits}
-use Rattle.extents.specs.declared.Half.TheVariants.{Free, Greedy}
+use Rattle.extents.specs.Sheet.{half_fits}
 use Rattle.extents.proofs.byte_sheet_fits.Goals as goal
 
 pub loop-c-init : goal.loop-c-init

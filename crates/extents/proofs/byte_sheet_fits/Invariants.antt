@@ -1,13 +1,10 @@
 -- `extents::byte_sheet_fits` meets its contract. The loop's invariant: the rows of both halves before the start fit. The
 -- measure is the number of starts left.
-use mathlib.Core.Path.{◌≡◌, sym, ◌∙◌}
+use mathlib.Core.Path.{◌≡◌}
 use mathlib.Core.Bool.{true, ◌&&◌}
 use Prim.Native.Nat.{ℕ, ◌+◌, ◌-◌}
-use native.Mathlib.Omega.{arith}
 use Rattle.plain.specs.Below.{every_below}
-use Rattle.plain.proofs.Below.{every-none, every-step, every-fails, every-fewer, every-and}
-use Rattle.plain.proofs.Calls.{refused, passed}
-use Rattle.extents.specs.Sheet.{row_fits, half_fits}
+use Rattle.extents.specs.Sheet.{row_fits}
 use Rattle.extents.specs.declared.Half.TheVariants.{Free, Greedy}
 use Rattle.extents.proofs.byte_sheet_fits.Given as goal
 

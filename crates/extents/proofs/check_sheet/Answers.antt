@@ -1,7 +1,4 @@
 -- `extents::check_sheet` meets its contract: each answer rewrites with the tests that led to it.
-use mathlib.Core.Path.{sym}
-use native.Mathlib.Omega.{arith}
-use borrow.Author.Rules.{rules}
 use Rattle.plain.proofs.Tests.{and-off, and-on}
 use Rattle.plain.proofs.Calls.{refused, passed}
 use Rattle.extents.specs.Sheet.{sheet_fits}

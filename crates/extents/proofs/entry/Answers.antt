@@ -1,7 +1,6 @@
 -- `extents::entry` meets its contract: each number on the way to the entry is at most the sheet's length (`placed`).
 use native.Mathlib.Nat.{zero-add}
 use native.Mathlib.Omega.{arith}
-use borrow.Author.Rules.{rules}
 use Rattle.extents.specs.Sheet.{entry_at}
 use Rattle.extents.proofs.Places.{placed}
 use Rattle.extents.proofs.entry.Goals as goal

@@ -1,10 +1,7 @@
-use mathlib.Core.Path.{◌≡◌, sym}
-use mathlib.Core.Bool.{true}
-use Prim.Native.Nat.{◌+◌, ◌-◌}
+use mathlib.Core.Path.{sym}
 use native.Mathlib.Omega.{arith}
-use Rattle.plain.specs.Below.{every_below}
 use Rattle.plain.proofs.Below.{every-none, every-step, every-fails}
-use Rattle.extents.specs.Sheet.{row_fits, half_fits}
+use Rattle.extents.specs.Sheet.{half_fits}
 use Rattle.plain.proofs.Calls.{refused, passed}
 use Rattle.plain.proofs.Below.{every-fewer}
 use Rattle.extents.proofs.Size.{longer}

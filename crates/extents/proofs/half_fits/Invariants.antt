@@ -1,15 +1,10 @@
 -- `extents::half_fits` meets its contract. The loop's invariant: every row before the start fits. The measure is the
 -- number of starts left.
-use mathlib.Core.Path.{◌≡◌, sym}
+use mathlib.Core.Path.{◌≡◌}
 use mathlib.Core.Bool.{true}
 use Prim.Native.Nat.{◌+◌, ◌-◌}
-use native.Mathlib.Omega.{arith}
 use Rattle.plain.specs.Below.{every_below}
-use Rattle.plain.proofs.Below.{every-none, every-step, every-fails}
-use Rattle.extents.specs.Sheet.{row_fits, half_fits}
-use Rattle.plain.proofs.Calls.{refused, passed}
-use Rattle.plain.proofs.Below.{every-fewer}
-use Rattle.extents.proofs.Size.{longer}
+use Rattle.extents.specs.Sheet.{row_fits}
 use Rattle.extents.proofs.half_fits.Given as goal
 
 abbrev pub invariant-loop-c : goal.invariant-loop-c

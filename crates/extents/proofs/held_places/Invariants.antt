@@ -1,10 +1,7 @@
 -- `extents::held_places` meets its contract. The loop's invariant: every place before the next holds itself.
-use mathlib.Core.Path.{◌≡◌, refl, ◌∙◌}
+use mathlib.Core.Path.{◌≡◌}
 use Prim.Native.Nat.{ℕ, ◌-◌, ◌≤◌, ◌<◌}
-use native.Mathlib.Omega.{arith}
-use borrow.Author.Rules.{rules}
-use lib.ListN.{length, get_or, length-set}
-use Rattle.extents.proofs.Rows.{held_more}
+use lib.ListN.{length, get_or}
 use Rattle.extents.proofs.held_places.Given as goal
 
 abbrev pub invariant-loop-place : goal.invariant-loop-place

@@ -1,5 +1,4 @@
 -- `extents::is_odd` meets its contract: the law of the joined comparisons, by what `held_between` ensures.
-use borrow.Author.Rules.{rules}
 use Rattle.extents.proofs.Rows.{odd_is}
 use Rattle.extents.proofs.is_odd.Goals as goal
 

@@ -2,9 +2,8 @@
 -- nothing wraps.
 use mathlib.Core.Path.{refl, sym}
 use native.Mathlib.Omega.{arith}
-use borrow.Author.Rules.{rules}
 use Rattle.extents.specs.Sheet.{sized}
-use Rattle.extents.proofs.Size.{length-fits, too_long}
+use Rattle.extents.proofs.Size.{too_long}
 use Rattle.extents.proofs.is_sized.Goals as goal
 
 pub returns-then-n-ge-TOO_LONG : goal.returns-then-n-ge-TOO_LONG

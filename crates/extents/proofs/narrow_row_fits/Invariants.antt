@@ -3,9 +3,8 @@
 use mathlib.Core.Path.{◌≡◌}
 use mathlib.Core.Bool.{not}
 use Prim.Native.Nat.{◌+◌, ◌-◌, ◌≤◌}
-use native.Mathlib.Omega.{arith}
 use Rattle.plain.specs.Below.{every_below}
-use Rattle.extents.proofs.Chunks.{both_at, none_both, odd-chunk, row-covered}
+use Rattle.extents.proofs.Chunks.{both_at}
 use Rattle.extents.proofs.narrow_row_fits.Given as goal
 
 abbrev pub invariant-loop-l : goal.invariant-loop-l

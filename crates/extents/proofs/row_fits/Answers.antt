@@ -1,12 +1,8 @@
-use mathlib.Core.Path.{◌≡◌, sym}
-use mathlib.Core.Bool.{true}
-use Prim.Native.Nat.{◌+◌, ◌-◌, ◌≤◌}
+use mathlib.Core.Path.{sym}
 use native.Mathlib.Omega.{arith}
-use borrow.Author.Rules.{rules}
-use Rattle.plain.specs.Below.{every_below}
 use Rattle.plain.proofs.Below.{every-step, every-fails, every-fewer}
 use Rattle.plain.proofs.Calls.{refused, passed}
-use Rattle.extents.specs.Sheet.{fits_at, row_fits}
+use Rattle.extents.specs.Sheet.{row_fits}
 use Rattle.extents.proofs.Rows.{none-judged, judged}
 use Rattle.extents.proofs.Size.{longer}
 use Rattle.extents.proofs.row_fits.Goals as goal

@@ -1,16 +1,10 @@
 -- `extents::row_fits` meets its contract. The loop's invariant: the limit is not below the start, and every entry
 -- of the row before the limit fits. The measure is the number of limits left.
-use mathlib.Core.Path.{◌≡◌, sym}
+use mathlib.Core.Path.{◌≡◌}
 use mathlib.Core.Bool.{true}
 use Prim.Native.Nat.{◌+◌, ◌-◌, ◌≤◌}
-use native.Mathlib.Omega.{arith}
-use borrow.Author.Rules.{rules}
 use Rattle.plain.specs.Below.{every_below}
-use Rattle.plain.proofs.Below.{every-step, every-fails, every-fewer}
-use Rattle.plain.proofs.Calls.{refused, passed}
-use Rattle.extents.specs.Sheet.{fits_at, row_fits}
-use Rattle.extents.proofs.Rows.{none-judged, judged}
-use Rattle.extents.proofs.Size.{longer}
+use Rattle.extents.specs.Sheet.{fits_at}
 use Rattle.extents.proofs.row_fits.Given as goal
 
 abbrev pub invariant-loop-l : goal.invariant-loop-l

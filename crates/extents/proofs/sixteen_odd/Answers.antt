@@ -1,11 +1,7 @@
-use mathlib.Core.Path.{◌≡◌}
-use mathlib.Core.Bool.{not}
-use Prim.Native.Nat.{ℕ, ◌+◌, ◌-◌, ◌≤◌}
+use Prim.Native.Nat.{ℕ, ◌+◌}
 use native.Mathlib.Omega.{arith}
-use borrow.Author.Rules.{rules}
-use Rattle.plain.specs.Below.{every_below}
 use Rattle.plain.proofs.Below.{every-none}
-use Rattle.extents.proofs.Rows.{odd-more, all-tried}
+use Rattle.extents.proofs.Rows.{odd-more}
 use Rattle.extents.proofs.Chunks.{both_at, pair-here}
 use Rattle.extents.proofs.sixteen_odd.Goals as goal
 

@@ -1,8 +1,4 @@
-use mathlib.Core.Path.{◌≡◌}
-use mathlib.Core.Bool.{not}
-use Prim.Native.Nat.{◌+◌, ◌-◌, ◌≤◌}
 use native.Mathlib.Omega.{arith}
-use Rattle.plain.specs.Below.{every_below}
 use Rattle.extents.proofs.Chunks.{both_at, none_both, odd-chunk, row-covered}
 use Rattle.extents.proofs.wide_row_fits.Goals as goal
 

@@ -1,5 +1,4 @@
 -- What the first bad byte, or none, and the last byte say of the line.
-use borrow.Author.Rules.{rules}
 use mathlib.Core.Path.{sym, ◌∙◌}
 use native.Mathlib.Omega.{arith}
 use Rattle.line.proofs.Lines.{verdict-long, verdict-byte, verdict-empty, verdict-end, verdict-good}

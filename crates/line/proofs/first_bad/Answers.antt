@@ -1,10 +1,7 @@
-use borrow.Author.Rules.{rules}
-use mathlib.Core.Path.{◌≡◌, refl, sym, ◌∙◌}
-use Prim.Native.Nat.{◌≤◌, ◌-◌}
+use mathlib.Core.Path.{sym, ◌∙◌}
 use native.Mathlib.Omega.{arith}
-use lib.ListN.{length}
 use borrow.Author.Tests.{not-true, not-false}
-use Rattle.line.proofs.Lines.{bad_from, bad-here, bad-later, bad-none, bad-nowhere}
+use Rattle.line.proofs.Lines.{bad-here, bad-later, bad-none, bad-nowhere}
 use Rattle.line.proofs.first_bad.Goals as goal
 
 pub returns-then-is_plain-clause-clean : goal.returns-then-is_plain-clause-clean

@@ -1,11 +1,8 @@
 -- A plain line has no bad byte. The loop's invariant: the first bad byte from here on is the line's first bad byte.
-use borrow.Author.Rules.{rules}
-use mathlib.Core.Path.{◌≡◌, refl, sym, ◌∙◌}
+use mathlib.Core.Path.{◌≡◌}
 use Prim.Native.Nat.{◌≤◌, ◌-◌}
-use native.Mathlib.Omega.{arith}
 use lib.ListN.{length}
-use borrow.Author.Tests.{not-true, not-false}
-use Rattle.line.proofs.Lines.{bad_from, bad-here, bad-later, bad-none, bad-nowhere}
+use Rattle.line.proofs.Lines.{bad_from}
 use Rattle.line.proofs.first_bad.Given as goal
 
 abbrev pub invariant-loop-i : goal.invariant-loop-i

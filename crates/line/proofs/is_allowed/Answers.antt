@@ -1,7 +1,6 @@
 -- `is_allowed` is `is_allowed`, test by test.
 use mathlib.Core.Path.{◌∙◌}
 use Rattle.line.proofs.Lines.{allowed-low, allowed-high, allowed-printed}
-use borrow.Author.Rules.{rules}
 use Rattle.line.proofs.is_allowed.Goals as goal
 
 pub returns-then-b-lt-FIRST_PRINTED : goal.returns-then-b-lt-FIRST_PRINTED

@@ -1,14 +1,9 @@
 -- The loop's invariant: if nothing was odd, the bytes passed are allowed. What it leaves is the last sixteen.
-use borrow.Author.Rules.{rules}
-use mathlib.Core.Path.{◌≡◌, refl}
+use mathlib.Core.Path.{◌≡◌}
 use mathlib.Core.Bool.{false}
 use Prim.Native.Nat.{◌-◌, ◌≤◌}
-use native.Mathlib.Omega.{arith}
 use lib.ListN.{length}
-use borrow.Author.Tests.{not-true}
-use Rattle.plain.proofs.Tests.{not-both}
 use Rattle.line.specs.Line.{AllowedBetween}
-use Rattle.plain.proofs.Tried.{none_between, fewer-between, both-between}
 use Rattle.line.proofs.is_plain.Given as goal
 
 abbrev pub invariant-loop-at : goal.invariant-loop-at

@@ -1,11 +1,8 @@
 -- The loop's invariant: if nothing was odd, the bytes passed are allowed.
-use borrow.Author.Rules.{rules}
 use mathlib.Core.Path.{◌≡◌}
 use mathlib.Core.Bool.{false}
 use Prim.Native.Nat.{◌+◌, ◌-◌, ◌≤◌}
-use native.Mathlib.Omega.{arith}
 use Rattle.line.specs.Line.{AllowedBetween}
-use Rattle.plain.proofs.Tried.{none_between, one-between, fewer-between, both-between}
 use Rattle.line.proofs.sixteen_odd.Given as goal
 
 abbrev pub invariant-loop-i : goal.invariant-loop-i

@@ -1,12 +1,9 @@
-use borrow.Author.Rules.{rules}
 use mathlib.Core.Path.{◌≡◌, refl}
-use Prim.Native.Nat.{◌-◌, ◌≤◌}
 use native.Mathlib.Omega.{arith}
-use lib.Dec.{eqb}
-use lib.ListN.{length, get_or, length-set}
+use lib.ListN.{length-set}
 use borrow.Author.Tests.{eq-eqb, ne_eqb}
 use Rattle.ruledef_map.specs.RuledefMap.{with_mark}
-use Rattle.ruledef_map.proofs.Orders.{Written, written_none, written-room, written-hit, written-miss, written_all}
+use Rattle.ruledef_map.proofs.Orders.{written_none, written-room, written-hit, written-miss, written_all}
 use Rattle.ruledef_map.proofs.gather.Goals as goal
 
 pub loop-rule-init : goal.loop-rule-init

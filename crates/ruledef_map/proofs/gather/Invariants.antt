@@ -1,13 +1,9 @@
 -- The loop's invariant: the rules passed that have the mark are written.
-use borrow.Author.Rules.{rules}
-use mathlib.Core.Path.{◌≡◌, refl}
+use mathlib.Core.Path.{◌≡◌}
 use Prim.Native.Nat.{◌-◌, ◌≤◌}
-use native.Mathlib.Omega.{arith}
 use lib.Dec.{eqb}
-use lib.ListN.{length, get_or, length-set}
-use borrow.Author.Tests.{eq-eqb, ne_eqb}
-use Rattle.ruledef_map.specs.RuledefMap.{with_mark}
-use Rattle.ruledef_map.proofs.Orders.{Written, written_none, written-room, written-hit, written-miss, written_all}
+use lib.ListN.{length, get_or}
+use Rattle.ruledef_map.proofs.Orders.{Written}
 use Rattle.ruledef_map.proofs.gather.Given as goal
 
 abbrev pub invariant-loop-rule : goal.invariant-loop-rule

@@ -1,7 +1,6 @@
 -- `mark_of`: by the ruleset, then by the prefix.
 use mathlib.Core.Path.{sym, ◌∙◌}
 use Rattle.ruledef_map.proofs.Orders.{mark-top, mark-nested}
-use borrow.Author.Rules.{rules}
 use Rattle.ruledef_map.proofs.mark.Goals as goal
 
 pub returns-then-is_top_rule : goal.returns-then-is_top_rule

@@ -1,11 +1,8 @@
 -- The loop's invariant: every rule passed has its mark.
-use borrow.Author.Rules.{rules}
-use mathlib.Core.Path.{◌≡◌, refl}
+use mathlib.Core.Path.{◌≡◌}
 use Prim.Native.Nat.{ℕ, ◌-◌, ◌≤◌, ◌<◌}
-use native.Mathlib.Omega.{arith}
-use lib.ListN.{length, get_or, length-set}
+use lib.ListN.{length, get_or}
 use Rattle.ruledef_map.specs.RuledefMap.{prefix_bytes, mark_of}
-use Rattle.ruledef_map.proofs.Orders.{marks-more}
 use Rattle.ruledef_map.proofs.mark_rules.Given as goal
 
 abbrev pub invariant-loop-rule : goal.invariant-loop-rule

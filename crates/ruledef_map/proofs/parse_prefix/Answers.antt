@@ -1,10 +1,7 @@
-use borrow.Author.Rules.{rules}
 use mathlib.Core.Path.{refl, ap, sym, ◌∙◌}
 use mathlib.Core.Bool.{not}
-use Prim.Native.Nat.{◌-◌}
 use native.Mathlib.Omega.{arith}
-use lib.ListN.{length}
-use Rattle.ruledef_map.proofs.Prefixes.{Gathered, gathered_none, gathered-space, gathered-solid, prefix-full, prefix-end}
+use Rattle.ruledef_map.proofs.Prefixes.{gathered_none, gathered-space, gathered-solid, prefix-full, prefix-end}
 use Rattle.ruledef_map.proofs.parse_prefix.Goals as goal
 
 pub loop-at-init : goal.loop-at-init

@@ -1,13 +1,11 @@
 use borrow.Author.Rules.{rules}
-use mathlib.Core.Path.{◌≡◌, refl, sym, ap, ◌∙◌}
+use mathlib.Core.Path.{refl, sym, ap, ◌∙◌}
 use mathlib.Core.List.{List}
-use Prim.Native.Nat.{◌-◌, ◌≤◌, ◌<◌}
+use Prim.Native.Nat.{◌<◌}
 use native.Mathlib.Omega.{arith}
 use lib.ListN.{length}
-use Rattle.defs.specs.Table.{rule_parts, parts_between}
-use Rattle.ruledef_map.specs.RuledefMap.{leading, prefix_bytes, prefix_length}
+use Rattle.ruledef_map.specs.RuledefMap.{leading, prefix_bytes}
 use Rattle.defs.specs.declared.ruledef.Part.{Part}
-use Rattle.defs.specs.declared.ruledef.Part.TheVariants as Part
 use Rattle.defs.proofs.Words.{parts_whole, parts_within}
 use Rattle.ruledef_map.proofs.Prefixes.{continued, continued-whole, continued-full, met-stop, met-short, met-other, met-same, ended-stop}
 use Rattle.ruledef_map.proofs.prefix_length.Goals as goal

@@ -1,16 +1,10 @@
 -- The loop's invariant: what is left to compare decides as the whole does.
-use borrow.Author.Rules.{rules}
-use mathlib.Core.Path.{◌≡◌, refl, sym, ap, ◌∙◌}
-use mathlib.Core.List.{List}
-use Prim.Native.Nat.{◌-◌, ◌≤◌, ◌<◌}
-use native.Mathlib.Omega.{arith}
+use mathlib.Core.Path.{◌≡◌}
+use Prim.Native.Nat.{◌-◌, ◌≤◌}
 use lib.ListN.{length}
 use Rattle.defs.specs.Table.{rule_parts, parts_between}
-use Rattle.ruledef_map.specs.RuledefMap.{leading, prefix_bytes, prefix_length}
-use Rattle.defs.specs.declared.ruledef.Part.{Part}
-use Rattle.defs.specs.declared.ruledef.Part.TheVariants as Part
-use Rattle.defs.proofs.Words.{parts_whole, parts_within}
-use Rattle.ruledef_map.proofs.Prefixes.{continued, continued-whole, continued-full, met-stop, met-short, met-other, met-same, ended-stop}
+use Rattle.ruledef_map.specs.RuledefMap.{prefix_bytes, prefix_length}
+use Rattle.ruledef_map.proofs.Prefixes.{continued}
 use Rattle.ruledef_map.proofs.prefix_length.Given as goal
 
 abbrev pub invariant-loop-at : goal.invariant-loop-at

@@ -1,11 +1,8 @@
 -- The loop's invariant: the rules of the marks below this size are written.
-use borrow.Author.Rules.{rules}
-use mathlib.Core.Path.{◌≡◌, refl, ◌∙◌}
+use mathlib.Core.Path.{◌≡◌}
 use Prim.Native.Nat.{◌-◌, ◌≤◌}
-use native.Mathlib.Omega.{arith}
-use lib.ListN.{length, length-take}
-use Rattle.ruledef_map.specs.RuledefMap.{prefix_bytes}
-use Rattle.ruledef_map.proofs.Orders.{Taken, taken_none, taken-room, taken_more, taken-all, put-many, put-short, put_all}
+use lib.ListN.{length}
+use Rattle.ruledef_map.proofs.Orders.{Taken}
 use Rattle.ruledef_map.proofs.query_prefixed.Given as goal
 
 abbrev pub invariant-loop-size : goal.invariant-loop-size

@@ -1,11 +1,8 @@
-use borrow.Author.Rules.{rules}
 use mathlib.Core.Path.{◌≡◌, refl, sym, ◌∙◌}
-use Prim.Native.Nat.{◌-◌, ◌≤◌}
 use native.Mathlib.Omega.{arith}
-use lib.ListN.{length, length-set}
-use Rattle.defs.specs.Ruledef.{is_top_rule}
+use lib.ListN.{length-set}
 use Rattle.ruledef_map.specs.RuledefMap.{top_rules}
-use Rattle.ruledef_map.proofs.Orders.{Written, written_none, written-hit, written-miss, written-first, put-many, put-short, put_all}
+use Rattle.ruledef_map.proofs.Orders.{written_none, written-hit, written-miss, written-first, put-many, put-short, put_all}
 use Rattle.ruledef_map.proofs.top_rules.Goals as goal
 
 pub returns-then-rules-gt-MOST_RULES : goal.returns-then-rules-gt-MOST_RULES
@@ -26,7 +23,9 @@ loop-rule-preserved c = (written-miss _ _ _ _ _ _ c.loop-rule.invariant.0 (sym c
 
 pub returns : goal.returns
 unfolding top_rules
-returns c = record { answers =
-    let end : c.loop-rule.rule ≡ c.rule_count-rules.result = omega arith in
-    written-first _ _ _ _ _ _ c.loop-rule.invariant.0 _ refl (end ∙ c.rule_count-rules.ensures.answers)
-    ∙ put_all _ _ _ (omega (arith, c.rule_count-rules.ensures.answers, c.if-rules-gt-MOST_RULES.false)) (omega (arith, c.rule_count-rules.ensures.answers, c.if-found-rules.false)) }
+returns c = record {
+  answers =
+      let end : c.loop-rule.rule ≡ c.rule_count-rules.result = omega arith in
+      written-first _ _ _ _ _ _ c.loop-rule.invariant.0 _ refl (end ∙ c.rule_count-rules.ensures.answers)
+      ∙ put_all _ _ _ (omega (arith, c.rule_count-rules.ensures.answers, c.if-rules-gt-MOST_RULES.false)) (omega (arith, c.rule_count-rules.ensures.answers, c.if-found-rules.false));
+}

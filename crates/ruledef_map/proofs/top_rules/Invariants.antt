@@ -1,12 +1,9 @@
 -- The loop's invariant: the top rules passed are written.
-use borrow.Author.Rules.{rules}
-use mathlib.Core.Path.{◌≡◌, refl, sym, ◌∙◌}
+use mathlib.Core.Path.{◌≡◌}
 use Prim.Native.Nat.{◌-◌, ◌≤◌}
-use native.Mathlib.Omega.{arith}
-use lib.ListN.{length, length-set}
+use lib.ListN.{length}
 use Rattle.defs.specs.Ruledef.{is_top_rule}
-use Rattle.ruledef_map.specs.RuledefMap.{top_rules}
-use Rattle.ruledef_map.proofs.Orders.{Written, written_none, written-hit, written-miss, written-first, put-many, put-short, put_all}
+use Rattle.ruledef_map.proofs.Orders.{Written}
 use Rattle.ruledef_map.proofs.top_rules.Given as goal
 
 abbrev pub invariant-loop-rule : goal.invariant-loop-rule

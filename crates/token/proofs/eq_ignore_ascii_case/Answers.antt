@@ -1,7 +1,6 @@
 -- Equal, a capital and its partner, or apart.
 use mathlib.Core.Path.{◌∙◌}
-use Rattle.token.proofs.Bytes.{letters-equal, letters-near, letters-swap, letters-apart}
-use borrow.Author.Rules.{rules}
+use Rattle.token.proofs.Bytes.{letters-near, letters-swap, letters-apart}
 use Rattle.token.proofs.eq_ignore_ascii_case.Goals as goal
 
 pub returns-then-a-b-2 : goal.returns-then-a-b-2

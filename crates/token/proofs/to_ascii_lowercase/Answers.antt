@@ -3,9 +3,6 @@ use Prim.Native.Nat.{ℕ, ◌%◌}
 use native.Mathlib.Omega.{arith}
 use Rattle.token.proofs.Bytes.{class-partner, low_below, low-above}
 use borrow.Author.Rules.{rules}
-use Rattle.token.proofs.to_ascii_lowercase.Reads as reads
-use Rattle.token.proofs.to_ascii_lowercase.Lts as lts
-use Rattle.token.proofs.class.Reads as class-reads
 use Rattle.token.proofs.to_ascii_lowercase.Goals as goal
 
 pub returns-then-b-lt-FIRST_CAPITAL : goal.returns-then-b-lt-FIRST_CAPITAL

@@ -1,7 +1,6 @@
 use mathlib.Core.Path.{sym, ◌∙◌}
 use native.Mathlib.Omega.{arith}
-use borrow.Author.Rules.{rules}
-use Rattle.useful.proofs.Filled.{Filled, filled-end, filled-white, filled-solid, filled-all}
+use Rattle.useful.proofs.Filled.{filled-end, filled-white, filled-solid, filled-all}
 use Rattle.useful.proofs.find_places.Goals as goal
 
 pub loop-at-init : goal.loop-at-init

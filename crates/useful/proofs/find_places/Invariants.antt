@@ -1,8 +1,5 @@
 -- The loop's invariant: the places from here on are filled, and those before are their own (`Filled`).
-use mathlib.Core.Path.{sym, ◌∙◌}
-use native.Mathlib.Omega.{arith}
-use borrow.Author.Rules.{rules}
-use Rattle.useful.proofs.Filled.{Filled, filled-end, filled-white, filled-solid, filled-all}
+use Rattle.useful.proofs.Filled.{Filled}
 use Rattle.useful.proofs.find_places.Given as goal
 
 abbrev pub invariant-loop-at : goal.invariant-loop-at

@@ -3,7 +3,6 @@ use mathlib.Core.Path.{sym, ◌∙◌}
 use Rattle.syntax.proofs.Useful.{held_same}
 use Rattle.syntax.proofs.Moves.{expect-past, expect-other, expect-end}
 use Rattle.useful.proofs.Limits.{told-found}
-use borrow.Author.Rules.{rules}
 use Rattle.useful.proofs.maybe_expect_char.Goals as goal
 
 pub returns-then-eq_ignore_ascii_case : goal.returns-then-eq_ignore_ascii_case

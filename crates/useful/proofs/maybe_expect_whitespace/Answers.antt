@@ -4,8 +4,7 @@ use mathlib.Core.Bool.{true, false}
 use native.Mathlib.Omega.{arith}
 use Rattle.syntax.proofs.Useful.{held_same}
 use Rattle.syntax.proofs.Moves.{gap-end, gap-byte}
-use Rattle.useful.proofs.Limits.{entry-fits, later-white, own-solid}
-use borrow.Author.Rules.{rules}
+use Rattle.useful.proofs.Limits.{later-white, own-solid}
 use Rattle.useful.proofs.maybe_expect_whitespace.Goals as goal
 
 pub returns-then-limit-here : goal.returns-then-limit-here

@@ -1,7 +1,5 @@
 -- The entry for the cursor, held to the limit.
-use native.Mathlib.Omega.{arith}
-use borrow.Author.Rules.{rules}
-use Rattle.useful.proofs.Limits.{entry-fits, found}
+use Rattle.useful.proofs.Limits.{found}
 use Rattle.useful.proofs.next_useful_index.Goals as goal
 
 pub returns : goal.returns

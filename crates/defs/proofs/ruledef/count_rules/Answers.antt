@@ -1,10 +1,6 @@
-use borrow.Author.Rules.{rules}
-use mathlib.Core.Path.{◌≡◌, ap, ◌∙◌}
-use Prim.Native.Nat.{ℕ, ◌-◌, ◌≤◌}
+use mathlib.Core.Path.{◌∙◌}
 use native.Mathlib.Omega.{arith}
-use lib.ListN.{length, length-set}
-use Rattle.plain.specs.Lists.{listed}
-use Rattle.defs.specs.Ruledef.{tally_of}
+use lib.ListN.{length-set}
 use Rattle.defs.proofs.Starts.{listed-33, tally-here, tally-past, tally-most}
 use Rattle.defs.proofs.ruledef.count_rules.Goals as goal
 

@@ -1,12 +1,9 @@
 -- The loop's invariant: the counts are those of the records passed.
-use borrow.Author.Rules.{rules}
-use mathlib.Core.Path.{◌≡◌, ap, ◌∙◌}
-use Prim.Native.Nat.{ℕ, ◌-◌, ◌≤◌}
-use native.Mathlib.Omega.{arith}
-use lib.ListN.{length, length-set}
+use mathlib.Core.Path.{◌≡◌}
+use Prim.Native.Nat.{◌-◌, ◌≤◌}
+use lib.ListN.{length}
 use Rattle.plain.specs.Lists.{listed}
 use Rattle.defs.specs.Ruledef.{tally_of}
-use Rattle.defs.proofs.Starts.{listed-33, tally-here, tally-past, tally-most}
 use Rattle.defs.proofs.ruledef.count_rules.Given as goal
 
 abbrev pub invariant-loop-rule : goal.invariant-loop-rule

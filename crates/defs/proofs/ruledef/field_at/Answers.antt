@@ -2,7 +2,6 @@
 use mathlib.Core.Path.{ap, ◌∙◌}
 use native.Mathlib.Omega.{arith}
 use Rattle.defs.specs.Table.{word_at, field_at}
-use borrow.Author.Rules.{rules}
 use Rattle.defs.proofs.ruledef.field_at.Goals as goal
 
 pub returns-clause-answers : goal.returns-clause-answers

@@ -1,7 +1,6 @@
 -- `part_of` the word, by its tests.
 use mathlib.Core.Path.{refl}
 use Rattle.defs.proofs.Words.{part-exact, part-whitespace, part-expression, part-nested}
-use borrow.Author.Rules.{rules}
 use Rattle.defs.proofs.ruledef.part_of.Goals as goal
 
 pub returns-then-w-lt-WHITESPACE : goal.returns-then-w-lt-WHITESPACE

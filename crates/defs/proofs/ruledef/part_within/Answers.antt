@@ -1,6 +1,4 @@
 -- `part_of` the word there, which is read as it stands.
-use native.Mathlib.Omega.{arith}
-use borrow.Author.Rules.{rules}
 use Rattle.defs.specs.Table.{word_at}
 use Rattle.defs.proofs.ruledef.part_within.Goals as goal
 

@@ -1,6 +1,5 @@
 -- `rule_span`, with the words that were read.
 use Rattle.defs.proofs.Words.{span-whole, span-short}
-use borrow.Author.Rules.{rules}
 use Rattle.defs.proofs.ruledef.parts_of.Goals as goal
 
 pub returns-then-end-table : goal.returns-then-end-table

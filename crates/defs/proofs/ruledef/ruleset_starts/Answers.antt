@@ -3,8 +3,7 @@ use mathlib.Core.Path.{◌∙◌}
 use native.Mathlib.Omega.{arith}
 use Rattle.plain.specs.Lists.{range, listed}
 use Rattle.defs.specs.Table.{word_at}
-use Rattle.defs.proofs.Starts.{listed-33, tally-zero, tally-starts, tally-fits}
-use borrow.Author.Rules.{rules}
+use Rattle.defs.proofs.Starts.{tally-zero, tally-starts, tally-fits}
 use Rattle.defs.proofs.ruledef.ruleset_starts.Goals as goal
 
 pub count_rules-requires : goal.count_rules-requires

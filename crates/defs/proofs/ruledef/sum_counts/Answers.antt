@@ -1,10 +1,7 @@
-use borrow.Author.Rules.{rules}
-use mathlib.Core.Path.{◌≡◌, ◌∙◌}
-use Prim.Native.Nat.{◌-◌, ◌≤◌}
+use mathlib.Core.Path.{◌∙◌}
 use native.Mathlib.Omega.{arith}
-use lib.ListN.{length, length-set}
-use Rattle.plain.specs.Lists.{listed}
-use Rattle.defs.proofs.Starts.{half_summed, summed-none, summed-done, summed-next, summed-fits, summed-set}
+use lib.ListN.{length-set}
+use Rattle.defs.proofs.Starts.{summed-none, summed-done, summed-next, summed-fits, summed-set}
 use Rattle.defs.proofs.ruledef.sum_counts.Goals as goal
 
 pub loop-set-init : goal.loop-set-init

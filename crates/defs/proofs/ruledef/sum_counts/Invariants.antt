@@ -1,11 +1,9 @@
 -- The loop's invariant: up to here the counts are summed.
-use borrow.Author.Rules.{rules}
-use mathlib.Core.Path.{◌≡◌, ◌∙◌}
+use mathlib.Core.Path.{◌≡◌}
 use Prim.Native.Nat.{◌-◌, ◌≤◌}
-use native.Mathlib.Omega.{arith}
-use lib.ListN.{length, length-set}
+use lib.ListN.{length}
 use Rattle.plain.specs.Lists.{listed}
-use Rattle.defs.proofs.Starts.{half_summed, summed-none, summed-done, summed-next, summed-fits, summed-set}
+use Rattle.defs.proofs.Starts.{half_summed}
 use Rattle.defs.proofs.ruledef.sum_counts.Given as goal
 
 abbrev pub invariant-loop-set : goal.invariant-loop-set

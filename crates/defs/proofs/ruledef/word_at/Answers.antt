@@ -1,9 +1,7 @@
 -- A word below 2^16, or 0 past the end.
 use mathlib.Core.Path.{refl, sym}
-use native.Mathlib.Omega.{arith}
 use lib.ListN.{get_or-eq_default}
 use Rattle.defs.specs.Table.{word_at}
-use borrow.Author.Rules.{rules}
 use Rattle.defs.proofs.ruledef.word_at.Goals as goal
 
 pub returns-then-at-table-clause-answers : goal.returns-then-at-table-clause-answers

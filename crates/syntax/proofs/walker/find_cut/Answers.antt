@@ -1,11 +1,8 @@
-use borrow.Author.Rules.{rules}
 use mathlib.Core.Path.{sym, ◌∙◌}
-use Prim.Native.Nat.{◌-◌}
-use native.Mathlib.Omega.{arith}
 use Rattle.plain.proofs.Lists.{listed-read}
 use Rattle.syntax.specs.declared.walker.Turn.TheVariants as Turn
 use Rattle.syntax.proofs.Marks.{marked_class}
-use Rattle.syntax.proofs.Cuts.{Searching, search-begins, search-turns, search-ends, search-goes-on}
+use Rattle.syntax.proofs.Cuts.{search-begins, search-turns, search-ends, search-goes-on}
 use Rattle.syntax.proofs.walker.find_cut.Goals as goal
 
 pub loop-at-init : goal.loop-at-init

@@ -3,7 +3,6 @@
 use mathlib.Core.Path.{◌∙◌}
 use native.Mathlib.Omega.{arith}
 use Rattle.syntax.proofs.Turns.{nest-none, nest-open-paren, nest-stray-paren, nest-close-paren, nest-open-brace, nest-stray-brace, nest-close-brace, kinds-end}
-use borrow.Author.Rules.{rules}
 use Rattle.syntax.proofs.walker.nest.Goals as goal
 
 pub returns-then-kind-lt-OPEN_PAREN : goal.returns-then-kind-lt-OPEN_PAREN

@@ -1,10 +1,7 @@
-use borrow.Author.Rules.{rules}
-use mathlib.Core.Path.{refl, sym, ◌∙◌}
-use Prim.Native.Nat.{◌-◌}
-use native.Mathlib.Omega.{arith}
+use mathlib.Core.Path.{sym, ◌∙◌}
 use borrow.Author.Tests.{eq-eqb, ne_eqb}
 use Rattle.token.proofs.Bytes.{laid-whitespace}
-use Rattle.syntax.proofs.Useful.{Skipped, skip-stops, skip_goes_on, skip-ends}
+use Rattle.syntax.proofs.Useful.{skip-stops, skip_goes_on, skip-ends}
 use Rattle.syntax.proofs.walker.skip_by_class.Goals as goal
 
 pub returns-then-classes-b-ne-WHITESPACE-clause-value : goal.returns-then-classes-b-ne-WHITESPACE-clause-value

@@ -1,9 +1,6 @@
-use borrow.Author.Rules.{rules}
-use mathlib.Core.Path.{refl, sym, ◌∙◌}
-use Prim.Native.Nat.{◌-◌}
-use native.Mathlib.Omega.{arith}
+use mathlib.Core.Path.{sym, ◌∙◌}
 use borrow.Author.Tests.{not-true, not-false}
-use Rattle.syntax.proofs.Useful.{Skipped, skip-stops, skip_goes_on, skip-ends}
+use Rattle.syntax.proofs.Useful.{skip-stops, skip_goes_on, skip-ends}
 use Rattle.syntax.proofs.walker.skip_whitespace.Goals as goal
 
 pub returns-then-not-is_whitespace-clause-value : goal.returns-then-not-is_whitespace-clause-value

@@ -1,10 +1,6 @@
 -- The loop's invariant: the useful place from here on is the useful place from the start.
-use borrow.Author.Rules.{rules}
-use mathlib.Core.Path.{refl, sym, ◌∙◌}
 use Prim.Native.Nat.{◌-◌}
-use native.Mathlib.Omega.{arith}
-use borrow.Author.Tests.{not-true, not-false}
-use Rattle.syntax.proofs.Useful.{Skipped, skip-stops, skip_goes_on, skip-ends}
+use Rattle.syntax.proofs.Useful.{Skipped}
 use Rattle.syntax.proofs.walker.skip_whitespace.Given as goal
 
 abbrev pub invariant-loop-at : goal.invariant-loop-at

@@ -3,7 +3,6 @@ use mathlib.Core.Path.{sym, ◌∙◌}
 use mathlib.Core.Logic.{inl, inr}
 use native.Mathlib.Omega.{arith}
 use Rattle.syntax.proofs.Turns.{nest-none, turn-cut, turn-unmarked, turn-nested}
-use borrow.Author.Rules.{rules}
 use Rattle.syntax.proofs.walker.take_in.Goals as goal
 use Rattle.syntax.proofs.walker.take_in.Goals.{then-may_cut+else-class-ge-MARK, else-may_cut}
 
@@ -17,7 +16,7 @@ pub returns : goal.returns
 returns c = λ x b h e s.
     turn-nested _ x b c.args.s h e _
     (elim c.if-may_cut.branch [
-      then-may_cut+else-class-ge-MARK w ↦ inl w.if-class-ge-MARK.false
-    | else-may_cut w ↦ inr (sym c.may_cut.ensures ∙ w.if-may_cut.false)
+      | then-may_cut+else-class-ge-MARK w ↦ inl w.if-class-ge-MARK.false
+      | else-may_cut w ↦ inr (sym c.may_cut.ensures ∙ w.if-may_cut.false)
     ])
     (λ k. c.nest.ensures b h k s)

@@ -1,9 +1,7 @@
 -- The cut of the held walker.
 use mathlib.Core.Path.{ap, ◌∙◌}
-use Rattle.syntax.specs.Walker.{held}
 use Rattle.syntax.specs.Cut.{cut}
 use Rattle.syntax.proofs.Useful.{held-is-within}
-use borrow.Author.Rules.{rules}
 use Rattle.syntax.proofs.walker.Walker.find_lookahead_char_index.Goals as goal
 
 pub find_cut-requires-clause-from_le_end : goal.find_cut-requires-clause-from_le_end

@@ -1,6 +1,5 @@
 -- `Walker::hold` is `held`, limit first.
 use Rattle.syntax.proofs.Useful.{held_by}
-use borrow.Author.Rules.{rules}
 use Rattle.syntax.proofs.walker.Walker.hold.Goals as goal
 
 pub returns : goal.returns

@@ -1,7 +1,6 @@
 -- `Walker::is_over` tests the held walker.
 use mathlib.Core.Path.{ap}
 use Rattle.syntax.specs.Walker.{over}
-use borrow.Author.Rules.{rules}
 use Rattle.syntax.proofs.walker.Walker.is_over.Goals as goal
 
 pub returns : goal.returns

@@ -3,7 +3,6 @@ use mathlib.Core.Path.{sym, ◌∙◌}
 use native.Mathlib.Omega.{arith}
 use Rattle.syntax.proofs.Useful.{held-is-within}
 use Rattle.syntax.proofs.Moves.{expect-past, expect-other, expect-end}
-use borrow.Author.Rules.{rules}
 use Rattle.syntax.proofs.walker.Walker.maybe_expect_char.Goals as goal
 
 pub skip_whitespace-at-requires-clause-from_le_end : goal.skip_whitespace-at-requires-clause-from_le_end

@@ -3,7 +3,6 @@ use mathlib.Core.Path.{sym, ◌∙◌}
 use native.Mathlib.Omega.{arith}
 use Rattle.syntax.proofs.Useful.{held-is-within}
 use Rattle.syntax.proofs.Moves.{gap-end, gap-byte}
-use borrow.Author.Rules.{rules}
 use Rattle.syntax.proofs.walker.Walker.maybe_expect_whitespace.Goals as goal
 
 pub returns-then-limit-at : goal.returns-then-limit-at

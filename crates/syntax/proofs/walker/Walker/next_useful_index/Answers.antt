@@ -2,7 +2,6 @@
 use mathlib.Core.Path.{ap, ◌∙◌}
 use Rattle.syntax.specs.Walker.{useful}
 use Rattle.syntax.proofs.Useful.{held-is-within}
-use borrow.Author.Rules.{rules}
 use Rattle.syntax.proofs.walker.Walker.next_useful_index.Goals as goal
 
 pub skip_whitespace-requires-clause-from_le_end : goal.skip_whitespace-requires-clause-from_le_end

@@ -1,7 +1,6 @@
 -- `Walker::set_cursor_index` holds before and after.
 use mathlib.Core.Path.{ap, ◌∙◌}
 use Rattle.syntax.specs.Walker.{moved_to}
-use borrow.Author.Rules.{rules}
 use Rattle.syntax.proofs.walker.Walker.set_cursor_index.Goals as goal
 
 pub returns : goal.returns

@@ -1,7 +1,6 @@
 -- `Walker::set_cursor_limit` holds before and after.
 use mathlib.Core.Path.{ap, ◌∙◌}
 use Rattle.syntax.specs.Walker.{limited}
-use borrow.Author.Rules.{rules}
 use Rattle.syntax.proofs.walker.Walker.set_cursor_limit.Goals as goal
 
 pub returns : goal.returns
