@@ -17,7 +17,7 @@ pub lay-requires-clause-to_in_bounds : goal.lay-requires-clause-to_in_bounds
 lay-requires-clause-to_in_bounds c = one-row c.args.line.now c.args.sheet.now c.args.c c.requires.made c.requires.c_in_bounds Greedy c.args.sheet.now refl
 
 pub returns-then-digits-c : goal.returns-then-digits-c
-returns-then-digits-c c = greedy-none c.args.line.now c.args.sheet.now c.lay.new.sheet c.args.c c.requires.made c.requires.c_in_bounds c.requires.white_value c.if-white.false c.args.digits c.requires.digits_value c.if-digits-c.true c.lay.ensures
+returns-then-digits-c c = greedy-none c.args.line.now c.args.sheet.now c.lay.new.sheet c.args.c c.requires.made c.requires.c_in_bounds c.requires.white_value (cc) c.args.digits c.requires.digits_value c.if-digits-c.true c.lay.ensures
 
 pub lay_ends-requires-clause-top_in_bounds : goal.lay_ends-requires-clause-top_in_bounds
 lay_ends-requires-clause-top_in_bounds c = let inside = digits-top c.args.line.now c.args.c c.requires.c_in_bounds c.args.digits c.requires.digits_value in digits-room c.args.line.now c.args.sheet.now c.args.c c.requires.made c.requires.c_in_bounds c.args.digits inside
@@ -38,4 +38,4 @@ pub lay-requires-2-clause-to_in_bounds : goal.lay-requires-2-clause-to_in_bounds
 lay-requires-2-clause-to_in_bounds c = let inside = digits-top c.args.line.now c.args.c c.requires.c_in_bounds c.args.digits c.requires.digits_value in one-row c.args.line.now c.args.sheet.now c.args.c c.requires.made c.requires.c_in_bounds Greedy c.lay_ends.new.sheet c.lay_ends.ensures.long
 
 pub returns : goal.returns
-returns c = greedy-ends c.args.line.now c.args.sheet.now c.lay-2.new.sheet c.args.c c.requires.made c.requires.c_in_bounds c.requires.white_value c.if-white.false c.lay_ends.new.sheet c.args.digits c.requires.digits_value c.if-digits-c.false c.lay_ends.ensures c.lay-2.ensures
+returns c = greedy-ends c.args.line.now c.args.sheet.now c.lay-2.new.sheet c.args.c c.requires.made c.requires.c_in_bounds c.requires.white_value (cc) c.lay_ends.new.sheet c.args.digits c.requires.digits_value c.if-digits-c.false c.lay_ends.ensures c.lay-2.ensures
