@@ -13,7 +13,7 @@ pub returns-then-text-end : goal.returns-then-text-end
 returns-then-text-end c = ends-pass c.loop-i.invariant c.loop-i-test.true _ refl (omega (arith, c.if-end-from.false)) (omega (arith, c.if-text-end.true))
 
 pub loop-i-preserved : goal.loop-i-preserved
-loop-i-preserved c = passed-more c.loop-i.invariant c.loop-i-test.true _ refl (omega (arith, c.if-end-from.false)) (omega (arith, c.if-text-end.false)) _ c.sheet_size-sheets.ensures.answers c.sheet_size-sheets.ensures.small
+loop-i-preserved c = passed-more c.loop-i.invariant c.loop-i-test.true _ refl (omega (arith, c.if-end-from.false)) (omega arith) _ c.sheet_size-sheets.ensures.answers c.sheet_size-sheets.ensures.small
 
 pub returns : goal.returns
 returns c = passed-all c.loop-i.invariant c.loop-i-test.false

@@ -12,10 +12,10 @@ pub returns-then-kind-lt-CLOSE_PAREN : goal.returns-then-kind-lt-CLOSE_PAREN
 returns-then-kind-lt-CLOSE_PAREN c = λ b h e s. c.on-then-kind-lt-CLOSE_PAREN.ensures ∙ nest-open-paren _ b c.args.s h e s (omega (arith, c.if-kind-lt-OPEN_PAREN.false, c.if-kind-lt-CLOSE_PAREN.true))
 
 pub returns-then-parens-eq0 : goal.returns-then-parens-eq0
-returns-then-parens-eq0 c = λ b h e s. nest-stray-paren _ b c.args.s h e s (omega (arith, c.if-kind-lt-CLOSE_PAREN.false, c.if-kind-lt-OPEN_BRACE.true)) c.if-parens-eq0.true
+returns-then-parens-eq0 c = λ b h e s. nest-stray-paren _ b c.args.s h e s (omega arith) c.if-parens-eq0.true
 
 pub returns-then-kind-lt-OPEN_BRACE : goal.returns-then-kind-lt-OPEN_BRACE
-returns-then-kind-lt-OPEN_BRACE c = λ b h e s. c.on-then-kind-lt-OPEN_BRACE.ensures ∙ nest-close-paren _ b c.args.s h e s (omega (arith, c.if-kind-lt-CLOSE_PAREN.false, c.if-kind-lt-OPEN_BRACE.true)) c.if-parens-eq0.false
+returns-then-kind-lt-OPEN_BRACE c = λ b h e s. c.on-then-kind-lt-OPEN_BRACE.ensures ∙ nest-close-paren _ b c.args.s h e s (omega arith) c.if-parens-eq0.false
 
 pub returns-then-kind-lt-CLOSE_BRACE : goal.returns-then-kind-lt-CLOSE_BRACE
 returns-then-kind-lt-CLOSE_BRACE c = λ b h e s. c.on-then-kind-lt-CLOSE_BRACE.ensures ∙ nest-open-brace _ b c.args.s h e s (omega (arith, c.if-kind-lt-OPEN_BRACE.false, c.if-kind-lt-CLOSE_BRACE.true))
