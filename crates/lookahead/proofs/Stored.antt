@@ -22,7 +22,6 @@ use Rattle.syntax.proofs.Useful.{InLine, held-is-within}
 use Rattle.defs.specs.declared.ruledef.Part.{Part}
 use Rattle.extents.specs.Sheet.{sized, sheet_fits, ReadAt, free_end, greedy_end, end_of}
 use Rattle.extents.specs.declared.Extent.{Extent}
-use Rattle.extents.specs.declared.Extent.TheVariants as Extent
 use Rattle.readings.specs.Scene.{Scene, walker_at, scene_of}
 use Rattle.readings.proofs.Packed.{lawful}
 use Rattle.readings.specs.Walk.{lookahead, cut_by, cut_for, list_of, unless, any_same, same_end, free_under, ends, limits}

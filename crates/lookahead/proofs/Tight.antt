@@ -7,7 +7,6 @@ use Rattle.syntax.specs.declared.walker.Lookahead.{Lookahead}
 use Rattle.syntax.proofs.Tight.{cuts-apart}
 use Rattle.lookahead.specs.Held.{char_says}
 use Rattle.lookahead.specs.declared.Character.{Character}
-use Rattle.lookahead.specs.declared.Character.TheVariants as Character
 use Rattle.lookahead.specs.declared.Ends.{Ends}
 use Rattle.lookahead.specs.declared.Limits.{Limits}
 use Rattle.lookahead.proofs.find_lookahead_char.Reads as find-lookahead-char

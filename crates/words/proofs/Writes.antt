@@ -5,7 +5,7 @@ use mathlib.Core.List.Memᴰ
 use mathlib.Core.List.{List, [], ◌∷◌, ◌++◌, append_assoc, append-nil, Memᴰ}
 use Prim.Native.Nat.{ℕ, ◌+◌, ◌≤◌, ◌<◌}
 use native.Mathlib.Omega.{arith}
-use lib.ListN.{length, set, length-append}
+use lib.ListN.{length, length-append}
 use Rattle.plain.specs.Buffers.{put_after}
 use Rattle.plain.proofs.Buffers.{put-none, put-end, put-more}
 use Rattle.readings.specs.Tree.{Tree, Args, end, expr, nest, moved, moved_args}

@@ -1,5 +1,4 @@
 -- Each answer is the first byte that differs.
-use borrow.Author.Rules.{rules}
 use borrow.Author.Tests.{not-true, not-false}
 use mathlib.Core.Path.{refl}
 use Rattle.leads.proofs.Words.{nothing_known, differ-first, differ-second, differ-third, differ-fourth, differ-nowhere}

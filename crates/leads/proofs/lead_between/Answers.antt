@@ -1,13 +1,9 @@
-use borrow.Author.Rules.{rules}
-use mathlib.Core.Path.{◌≡◌, refl}
 use mathlib.Core.List.{[]}
-use Prim.Native.Nat.{◌-◌, ◌≤◌}
 use native.Mathlib.Omega.{arith}
-use lib.ListN.{length, length-set}
+use lib.ListN.{length-set}
 use Rattle.defs.proofs.Words.{parts_within}
 use Rattle.readings.proofs.Records.{few-records}
-use Rattle.leads.specs.Leads.{Led, Between}
-use Rattle.leads.proofs.Laying.{led-none, between_more, between-all, span_key}
+use Rattle.leads.proofs.Laying.{between_more, span_key}
 use Rattle.leads.proofs.lead_between.Goals as goal
 
 pub overflow_cast-rule : goal.overflow_cast-rule

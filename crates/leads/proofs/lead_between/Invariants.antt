@@ -1,14 +1,8 @@
 -- The loop's invariant: the rules passed have their leads.
-use borrow.Author.Rules.{rules}
-use mathlib.Core.Path.{◌≡◌, refl}
-use mathlib.Core.List.{[]}
+use mathlib.Core.Path.{◌≡◌}
 use Prim.Native.Nat.{◌-◌, ◌≤◌}
-use native.Mathlib.Omega.{arith}
-use lib.ListN.{length, length-set}
-use Rattle.defs.proofs.Words.{parts_within}
-use Rattle.readings.proofs.Records.{few-records}
+use lib.ListN.{length}
 use Rattle.leads.specs.Leads.{Led, Between}
-use Rattle.leads.proofs.Laying.{led-none, between_more, between-all, span_key}
 use Rattle.leads.proofs.lead_between.Given as goal
 
 abbrev pub invariant-loop-rule : goal.invariant-loop-rule

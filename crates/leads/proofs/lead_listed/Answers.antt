@@ -1,12 +1,9 @@
-use borrow.Author.Rules.{rules}
-use mathlib.Core.Path.{◌≡◌, refl}
+use mathlib.Core.Path.{refl}
 use mathlib.Core.List.{[]}
-use Prim.Native.Nat.{◌+◌, ◌*◌, ◌-◌, ◌≤◌}
 use native.Mathlib.Omega.{arith}
-use lib.ListN.{length, get_or, length-set}
+use lib.ListN.{length-set}
 use Rattle.readings.proofs.Records.{few-records}
-use Rattle.leads.specs.Leads.{Led, Among}
-use Rattle.leads.proofs.Laying.{led-none, among-more, part_end, placed-key, led-counted}
+use Rattle.leads.proofs.Laying.{among-more, part_end, placed-key}
 use Rattle.leads.proofs.lead_listed.Goals as goal
 
 pub bounds-places-words : goal.bounds-places-words

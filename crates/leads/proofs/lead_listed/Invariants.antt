@@ -1,13 +1,8 @@
 -- The loop's invariant: the rules passed have their leads.
-use borrow.Author.Rules.{rules}
-use mathlib.Core.Path.{◌≡◌, refl}
-use mathlib.Core.List.{[]}
-use Prim.Native.Nat.{◌+◌, ◌*◌, ◌-◌, ◌≤◌}
-use native.Mathlib.Omega.{arith}
-use lib.ListN.{length, get_or, length-set}
-use Rattle.readings.proofs.Records.{few-records}
+use mathlib.Core.Path.{◌≡◌}
+use Prim.Native.Nat.{◌-◌, ◌≤◌}
+use lib.ListN.{length}
 use Rattle.leads.specs.Leads.{Led, Among}
-use Rattle.leads.proofs.Laying.{led-none, among-more, part_end, placed-key, led-counted}
 use Rattle.leads.proofs.lead_listed.Given as goal
 
 abbrev pub invariant-loop-i : goal.invariant-loop-i

@@ -1,11 +1,8 @@
-use borrow.Author.Rules.{rules}
-use mathlib.Core.Path.{◌≡◌, refl}
-use Prim.Native.Nat.{◌+◌, ◌-◌, ◌≤◌}
+use mathlib.Core.Path.{refl}
+use Prim.Native.Nat.{◌+◌}
 use native.Mathlib.Omega.{arith}
-use lib.ListN.{length, get_or}
 use Rattle.plain.proofs.Calls.{refused, passed}
-use Rattle.leads.specs.Leads.{Led}
-use Rattle.leads.proofs.Nested.{NestedTo, starts-long, starts-few, sets-few, nested-none, nested-top, nested-led, nested-empty, nested-all}
+use Rattle.leads.proofs.Nested.{starts-long, starts-few, sets-few, nested-none, nested-top, nested-led, nested-empty, nested-all}
 use Rattle.leads.proofs.lead_nested.Goals as goal
 
 pub loop-set-init : goal.loop-set-init

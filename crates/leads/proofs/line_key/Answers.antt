@@ -1,9 +1,6 @@
-use borrow.Author.Rules.{rules}
 use native.Mathlib.Omega.{arith}
-use Rattle.readings.specs.Fail.{ahead}
-use Rattle.leads.specs.Leads.{key_of}
 use Rattle.leads.proofs.Keys.{filling-fits, filling-all}
-use Rattle.leads.proofs.Seen.{LineFilling, line-start, line-byte, line-end}
+use Rattle.leads.proofs.Seen.{line-start, line-byte, line-end}
 use Rattle.leads.proofs.line_key.Goals as goal
 
 pub loop-left-init : goal.loop-left-init

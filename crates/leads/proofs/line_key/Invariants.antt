@@ -1,10 +1,7 @@
 -- The loop's invariant: the bytes that count from the cursor on give the bytes that are left of the key.
-use borrow.Author.Rules.{rules}
-use native.Mathlib.Omega.{arith}
 use Rattle.readings.specs.Fail.{ahead}
 use Rattle.leads.specs.Leads.{key_of}
-use Rattle.leads.proofs.Keys.{filling-fits, filling-all}
-use Rattle.leads.proofs.Seen.{LineFilling, line-start, line-byte, line-end}
+use Rattle.leads.proofs.Seen.{LineFilling}
 use Rattle.leads.proofs.line_key.Given as goal
 
 abbrev pub invariant-loop-left : goal.invariant-loop-left

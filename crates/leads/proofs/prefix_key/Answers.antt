@@ -1,10 +1,6 @@
-use borrow.Author.Rules.{rules}
 use mathlib.Core.Path.{refl}
 use native.Mathlib.Omega.{arith}
-use Rattle.defs.specs.Table.{parts_between}
-use Rattle.ruledef_map.specs.RuledefMap.{rule_prefix}
-use Rattle.leads.specs.Leads.{key_of}
-use Rattle.leads.proofs.Keys.{PartsFilling, parts-start, filling-fits, parts-end, parts-other, parts-exact, filling-all}
+use Rattle.leads.proofs.Keys.{parts-start, filling-fits, parts-end, parts-other, parts-exact, filling-all}
 use Rattle.leads.proofs.prefix_key.Goals as goal
 
 pub loop-left-init : goal.loop-left-init

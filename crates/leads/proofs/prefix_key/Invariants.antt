@@ -1,11 +1,8 @@
 -- The loop's invariant: the parts that are left give the bytes that are left of the key.
-use borrow.Author.Rules.{rules}
-use mathlib.Core.Path.{refl}
-use native.Mathlib.Omega.{arith}
 use Rattle.defs.specs.Table.{parts_between}
 use Rattle.ruledef_map.specs.RuledefMap.{rule_prefix}
 use Rattle.leads.specs.Leads.{key_of}
-use Rattle.leads.proofs.Keys.{PartsFilling, parts-start, filling-fits, parts-end, parts-other, parts-exact, filling-all}
+use Rattle.leads.proofs.Keys.{PartsFilling}
 use Rattle.leads.proofs.prefix_key.Given as goal
 
 abbrev pub invariant-loop-left : goal.invariant-loop-left

@@ -1,5 +1,4 @@
 -- No candidate, a duplicate, or a new one that stands last.
-use borrow.Author.Rules.{rules}
 use Rattle.lookahead.proofs.Stored.{add_none, add_same, add-new}
 use Rattle.lookahead.proofs.add_end.Goals as goal
 

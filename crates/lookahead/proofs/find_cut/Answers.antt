@@ -1,6 +1,5 @@
 -- The walker's cut for the lookahead character, or none without one.
 use mathlib.Core.Path.{◌∙◌}
-use borrow.Author.Rules.{rules}
 use Rattle.readings.specs.Scene.{scene_of}
 use Rattle.lookahead.proofs.Stored.{cut_of}
 use Rattle.lookahead.proofs.find_cut.Goals as goal

@@ -1,7 +1,6 @@
 -- The candidates, added one by one: after two there are at most two, so the third has room.
 use mathlib.Core.Path.{◌∙◌}
 use mathlib.Core.List.{[]}
-use borrow.Author.Rules.{rules}
 use Rattle.lookahead.proofs.Stored.{read_whole, read-cut, held_none, room-two, room-three, ends_held}
 use Rattle.lookahead.proofs.find_ends.Goals as goal
 

@@ -1,5 +1,4 @@
 -- The whole limit, and the cut if there is one.
-use borrow.Author.Rules.{rules}
 use Rattle.lookahead.proofs.Stored.{limits-cut, limits-whole}
 use Rattle.lookahead.proofs.find_limits.Goals as goal
 

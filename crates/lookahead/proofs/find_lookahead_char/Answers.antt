@@ -1,9 +1,4 @@
-use mathlib.Core.Path.{◌≡◌, ap, sym, ◌∙◌}
-use Prim.Native.Nat.{◌≤◌, ◌-◌}
-use native.Mathlib.Omega.{arith}
-use lib.ListN.{length}
-use borrow.Author.Rules.{rules}
-use Rattle.defs.specs.Table.{parts_between}
+use mathlib.Core.Path.{sym, ◌∙◌}
 use Rattle.readings.specs.Walk.{lookahead}
 use Rattle.lookahead.proofs.Ahead.{ahead-met, ahead_none}
 use Rattle.lookahead.proofs.find_lookahead_char.Goals as goal

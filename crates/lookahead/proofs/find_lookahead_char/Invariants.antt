@@ -1,12 +1,9 @@
 -- The loop's invariant: the character that the parts from here on give is the one that all of them give.
-use mathlib.Core.Path.{◌≡◌, ap, sym, ◌∙◌}
+use mathlib.Core.Path.{◌≡◌}
 use Prim.Native.Nat.{◌≤◌, ◌-◌}
-use native.Mathlib.Omega.{arith}
 use lib.ListN.{length}
-use borrow.Author.Rules.{rules}
 use Rattle.defs.specs.Table.{parts_between}
 use Rattle.readings.specs.Walk.{lookahead}
-use Rattle.lookahead.proofs.Ahead.{ahead-met, ahead_none}
 use Rattle.lookahead.proofs.find_lookahead_char.Given as goal
 
 abbrev pub invariant-loop-here : goal.invariant-loop-here

@@ -1,8 +1,6 @@
 -- The sheet's end under the cut, or none.
-use mathlib.Core.Path.{ap, ◌∙◌}
-use borrow.Author.Rules.{rules}
+use mathlib.Core.Path.{ap}
 use Rattle.syntax.specs.Cut.{cut_says}
-use Rattle.lookahead.proofs.Stored.{free-at, free-none}
 use Rattle.lookahead.proofs.free_to_cut.Goals as goal
 
 pub free-requires : goal.free-requires

@@ -1,10 +1,7 @@
-use mathlib.Core.Path.{◌≡◌, refl}
-use Prim.Native.Nat.{◌<◌, ◌-◌}
+use Prim.Native.Nat.{◌<◌}
 use native.Mathlib.Omega.{arith}
 use lib.ListN.{length}
-use lib.Seq.{slice}
 use borrow.Author.Rules.{rules}
-use Rattle.readings.specs.Walk.{any_same, same_end}
 use Rattle.lookahead.proofs.Stored.{place_same, place_other, any_here, any-later, any_none}
 use Rattle.lookahead.proofs.is_duplicate.Goals as goal
 

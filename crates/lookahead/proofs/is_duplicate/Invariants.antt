@@ -1,12 +1,8 @@
 -- The loop's invariant: what the ends from here on tell, all of them tell.
-use mathlib.Core.Path.{◌≡◌, refl}
-use Prim.Native.Nat.{◌<◌, ◌-◌}
-use native.Mathlib.Omega.{arith}
-use lib.ListN.{length}
+use mathlib.Core.Path.{◌≡◌}
+use Prim.Native.Nat.{◌-◌}
 use lib.Seq.{slice}
-use borrow.Author.Rules.{rules}
 use Rattle.readings.specs.Walk.{any_same, same_end}
-use Rattle.lookahead.proofs.Stored.{place_same, place_other, any_here, any-later, any_none}
 use Rattle.lookahead.proofs.is_duplicate.Given as goal
 
 abbrev pub invariant-loop-i : goal.invariant-loop-i

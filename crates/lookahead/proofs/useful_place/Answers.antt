@@ -1,6 +1,5 @@
 -- The useful place of the walker that was moved to the end.
 use mathlib.Core.Path.{ap, ◌∙◌}
-use borrow.Author.Rules.{rules}
 use Rattle.syntax.specs.Walker.{useful}
 use Rattle.lookahead.proofs.Stored.{moved-within, moved-held}
 use Rattle.lookahead.proofs.useful_place.Goals as goal

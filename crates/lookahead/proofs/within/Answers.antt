@@ -1,6 +1,4 @@
 -- An end past the table is the table's: no words stand between them.
-use native.Mathlib.Omega.{arith}
-use borrow.Author.Rules.{rules}
 use Rattle.lookahead.proofs.Ahead.{parts-past}
 use Rattle.lookahead.proofs.within.Goals as goal
 

@@ -1,9 +1,6 @@
 -- `places::place_rules` meets its contract: each turn prepares one rule more.
 use Prim.Native.Nat.{◌-◌}
-use native.Mathlib.Omega.{arith}
-use mathlib.Core.Path.{refl}
 use Rattle.places.specs.Places.{Placed}
-use Rattle.places.proofs.Words.{placed-none, placed-more, placed-fewer}
 use Rattle.places.proofs.place_rules.Given as goal
 
 abbrev pub invariant-loop-i : goal.invariant-loop-i

@@ -1,8 +1,5 @@
 use Rattle.pool.specs.Log.{kind_of}
 use Rattle.pool.proofs.Words.{kind-pred}
-use borrow.Author.Rules.{rules}
-use Rattle.pool.proofs.kind_of.Reads as reads
-use Rattle.pool.proofs.kind_of.Lts as lts
 use Rattle.pool.proofs.kind_of.Goals as goal
 
 -- src/lib.rt:118:1

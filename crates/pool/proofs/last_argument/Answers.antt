@@ -1,9 +1,5 @@
 use Rattle.pool.proofs.Meanings.{last_none, last-kept, last-completed}
 use native.Mathlib.Omega.{arith}
-use borrow.Author.Rules.{rules}
-use Rattle.pool.proofs.last_argument.Reads as reads
-use Rattle.pool.proofs.last_argument.Lts as lts
-use Rattle.pool.proofs.record_at.Reads as record-at-reads
 use Rattle.pool.proofs.last_argument.Goals as goal
 
 -- src/lib.rt:220:9

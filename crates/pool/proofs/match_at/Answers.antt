@@ -1,8 +1,4 @@
 use Rattle.pool.proofs.Meanings.{head-kept, head-completed}
-use borrow.Author.Rules.{rules}
-use Rattle.pool.proofs.match_at.Reads as reads
-use Rattle.pool.proofs.match_at.Lts as lts
-use Rattle.pool.proofs.record_at.Reads as record-at-reads
 use Rattle.pool.proofs.match_at.Goals as goal
 
 -- src/lib.rt:188:1

@@ -1,9 +1,4 @@
-use native.Mathlib.Omega.{arith}
 use Rattle.pool.proofs.Words.{reads-argument, reads-match}
-use borrow.Author.Rules.{rules}
-use Rattle.pool.proofs.record_at.Reads as reads
-use Rattle.pool.proofs.record_at.Lts as lts
-use Rattle.pool.proofs.kind_of.Reads as kind-of-reads
 use Rattle.pool.proofs.record_at.Goals as goal
 
 -- src/lib.rt:129:1

@@ -1,9 +1,5 @@
-use borrow.Author.Rules.{rules}
-use Prim.Native.Nat.{◌-◌}
 use native.Mathlib.Omega.{arith}
-use lib.ListN.{take}
-use Rattle.ruledef_map.specs.RuledefMap.{line_prefix}
-use Rattle.prefix_order.proofs.Finding.{Sought, seeking-none, seeking-small, seeking-asked, seeking-done, next_place, next-byte, sought-next, sought-all}
+use Rattle.prefix_order.proofs.Finding.{seeking-none, seeking-small, seeking-asked, seeking-done, next_place, sought-next, sought-all}
 use Rattle.prefix_order.proofs.find_rules.Goals as goal
 
 pub put_run-run-requires-clause-run_asked : goal.put_run-run-requires-clause-run_asked

@@ -1,11 +1,9 @@
 -- The loop's invariant: the rules of the prefixes up to this size are written, the key is that of this size, and the last run
 -- has ended.
-use borrow.Author.Rules.{rules}
 use Prim.Native.Nat.{◌-◌}
-use native.Mathlib.Omega.{arith}
 use lib.ListN.{take}
 use Rattle.ruledef_map.specs.RuledefMap.{line_prefix}
-use Rattle.prefix_order.proofs.Finding.{Sought, seeking-none, seeking-small, seeking-asked, seeking-done, next_place, next-byte, sought-next, sought-all}
+use Rattle.prefix_order.proofs.Finding.{Sought}
 use Rattle.prefix_order.proofs.find_rules.Given as goal
 
 abbrev pub invariant-loop-size : goal.invariant-loop-size

@@ -1,9 +1,7 @@
-use borrow.Author.Rules.{rules}
-use Prim.Native.Nat.{◌+◌, ◌-◌, ◌/◌, ◌≤◌}
+use Prim.Native.Nat.{◌+◌, ◌-◌, ◌/◌}
 use native.Mathlib.Omega.{arith}
-use lib.ListN.{take}
 use lib.Seq.{length-take-le, get_or-take}
-use Rattle.prefix_order.proofs.Runs.{Bracket, bracket-none, bracket-up, bracket-down, bracket-met}
+use Rattle.prefix_order.proofs.Runs.{bracket-none, bracket-up, bracket-down, bracket-met}
 use Rattle.prefix_order.proofs.first_from.Goals as goal
 
 pub returns-then-bound-order : goal.returns-then-bound-order

@@ -1,11 +1,8 @@
 -- The place from which it is sought settles one side like any other entry. The loop's invariant: the two places bracket the one
 -- sought, and each turn halves what lies between.
-use borrow.Author.Rules.{rules}
-use Prim.Native.Nat.{◌+◌, ◌-◌, ◌/◌, ◌≤◌}
-use native.Mathlib.Omega.{arith}
+use Prim.Native.Nat.{◌-◌, ◌≤◌}
 use lib.ListN.{take}
-use lib.Seq.{length-take-le, get_or-take}
-use Rattle.prefix_order.proofs.Runs.{Bracket, bracket-none, bracket-up, bracket-down, bracket-met}
+use Rattle.prefix_order.proofs.Runs.{Bracket}
 use Rattle.prefix_order.proofs.first_from.Given as goal
 
 abbrev pub invariant-loop-low : goal.invariant-loop-low

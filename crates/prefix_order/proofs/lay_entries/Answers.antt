@@ -1,9 +1,7 @@
-use borrow.Author.Rules.{rules}
-use mathlib.Core.Path.{◌≡◌, refl}
-use Prim.Native.Nat.{◌+◌, ◌*◌, ◌-◌, ◌≤◌}
+use mathlib.Core.Path.{refl}
 use native.Mathlib.Omega.{arith}
-use lib.ListN.{length, get_or, length-set}
-use Rattle.prefix_order.proofs.Entries.{Laying, laying-none, laying-turn, laying-all, entry-is}
+use lib.ListN.{length-set}
+use Rattle.prefix_order.proofs.Entries.{laying-turn, entry-is}
 use Rattle.leads.proofs.Laying.{part_end, placed-key}
 use Rattle.prefix_order.proofs.lay_entries.Goals as goal
 

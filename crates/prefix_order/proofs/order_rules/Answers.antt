@@ -1,8 +1,5 @@
 -- What is laid is sorted where it stands.
-use borrow.Author.Rules.{rules}
-use mathlib.Core.Path.{sym}
 use native.Mathlib.Omega.{arith}
-use lib.Seq.{length-take-le}
 use Rattle.prefix_order.proofs.Entries.{few-asked, lay-asked, sorted_all}
 use Rattle.prefix_order.proofs.order_rules.Goals as goal
 

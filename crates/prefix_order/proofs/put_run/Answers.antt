@@ -1,10 +1,7 @@
-use borrow.Author.Rules.{rules}
 use mathlib.Core.Path.{sym}
-use Prim.Native.Nat.{◌-◌}
 use native.Mathlib.Omega.{arith}
-use lib.ListN.{take}
 use lib.Seq.{length-take-le, get_or-take}
-use Rattle.prefix_order.proofs.Runs.{Running, running_none, running-room, running-turn, running-past, running-all}
+use Rattle.prefix_order.proofs.Runs.{running_none, running-room, running-turn, running-past}
 use Rattle.prefix_order.proofs.put_run.Goals as goal
 
 pub loop-end-init : goal.loop-end-init

@@ -1,36 +1,33 @@
 -- The cycle of the test of matches. The first match's record number falls; the second's stays in the pool.
-use Prim.Native.Nat.{ℕ, ◌+◌, ◌*◌, ◌<◌}
 use native.Mathlib.Omega.{arith}
-use borrow.Author.Rules.{rules}
-use Rattle.trees.proofs.Arguments.{before}
-use Rattle.trees.proofs.Sames.{sets-differ, rules-differ, by-arguments, both-none, first-none, second_none, different, alike, inner-differ, inner-alike, inner-earlier}
+use Rattle.trees.proofs.Sames.{first-none, second_none, different, alike, inner-differ, inner-alike, inner-earlier}
 use Rattle.trees.proofs.+is_same_same_arguments.Goals as goal
 
 pub same_arguments-is_same-requires : goal.same_arguments-is_same-requires
 same_arguments-is_same-requires t c =
- let (x, y) = inner-earlier c.last_argument-last.ensures.answers.lasts c.last_argument-other.ensures.answers.lasts c.in-After.is c.in-After-other-2.is c.compare-same.ensures c.in-Inner.is in
+    let (x, y) = inner-earlier c.last_argument-last.ensures.answers.lasts c.last_argument-other.ensures.answers.lasts c.in-After.is c.in-After-other-2.is c.compare-same.ensures c.in-Inner.is in
     (omega (arith, c.decreases), (c.requires.stored, (omega (arith, c.requires.a_le_used), omega (arith, c.requires.b_le_used))))
 
 pub same_arguments-returns-then-not-is_same : goal.same_arguments-returns-then-not-is_same
 same_arguments-returns-then-not-is_same t c =
- inner-differ c.last_argument-last.ensures.answers.lasts c.last_argument-other.ensures.answers.lasts c.in-After.is c.in-After-other-2.is c.compare-same.ensures c.in-Inner.is c.is_same.ensures.answers c.if-not-is_same.true-raw
+    inner-differ c.last_argument-last.ensures.answers.lasts c.last_argument-other.ensures.answers.lasts c.in-After.is c.in-After-other-2.is c.compare-same.ensures c.in-Inner.is c.is_same.ensures.answers c.if-not-is_same.true-raw
 
 pub same_arguments-returns-in-After-other : goal.same_arguments-returns-in-After-other
 same_arguments-returns-in-After-other t c =
- first-none c.last_argument-last.ensures.answers.lasts c.last_argument-other.ensures.answers.lasts c.in-First.is c.in-After-other.is
+    first-none c.last_argument-last.ensures.answers.lasts c.last_argument-other.ensures.answers.lasts c.in-First.is c.in-After-other.is
 
 pub same_arguments-returns-in-First-other-2 : goal.same_arguments-returns-in-First-other-2
 same_arguments-returns-in-First-other-2 t c =
- second_none c.last_argument-last.ensures.answers.lasts c.last_argument-other.ensures.answers.lasts c.in-After.is c.in-First-other-2.is
+    second_none c.last_argument-last.ensures.answers.lasts c.last_argument-other.ensures.answers.lasts c.in-After.is c.in-First-other-2.is
 
 pub same_arguments-returns-in-Different : goal.same_arguments-returns-in-Different
 same_arguments-returns-in-Different t c =
- different c.last_argument-last.ensures.answers.lasts c.last_argument-other.ensures.answers.lasts c.in-After.is c.in-After-other-2.is c.compare-same.ensures c.in-Different.is
+    different c.last_argument-last.ensures.answers.lasts c.last_argument-other.ensures.answers.lasts c.in-After.is c.in-After-other-2.is c.compare-same.ensures c.in-Different.is
 
 pub same_arguments-returns-in-Alike : goal.same_arguments-returns-in-Alike
 same_arguments-returns-in-Alike t c =
- alike c.last_argument-last.ensures.answers.lasts c.last_argument-other.ensures.answers.lasts c.in-After.is c.in-After-other-2.is c.compare-same.ensures c.in-Alike.is c.same_arguments.ensures
+    alike c.last_argument-last.ensures.answers.lasts c.last_argument-other.ensures.answers.lasts c.in-After.is c.in-After-other-2.is c.compare-same.ensures c.in-Alike.is c.same_arguments.ensures
 
 pub same_arguments-returns-else-not-is_same : goal.same_arguments-returns-else-not-is_same
 same_arguments-returns-else-not-is_same t c =
- inner-alike c.last_argument-last.ensures.answers.lasts c.last_argument-other.ensures.answers.lasts c.in-After.is c.in-After-other-2.is c.compare-same.ensures c.in-Inner.is c.is_same.ensures.answers c.if-not-is_same.false-raw c.same_arguments-in-Inner.ensures
+    inner-alike c.last_argument-last.ensures.answers.lasts c.last_argument-other.ensures.answers.lasts c.in-After.is c.in-After-other-2.is c.compare-same.ensures c.in-Inner.is c.is_same.ensures.answers c.if-not-is_same.false-raw c.same_arguments-in-Inner.ensures

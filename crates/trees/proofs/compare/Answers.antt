@@ -1,6 +1,5 @@
 -- Start, end and kind, in that order: each way out has its case of `compared`.
 use Rattle.trees.proofs.Sames.{starts-differ, ends-differ, by-kinds}
-use borrow.Author.Rules.{rules}
 use Rattle.trees.proofs.compare.Goals as goal
 
 pub returns-then-x-y : goal.returns-then-x-y

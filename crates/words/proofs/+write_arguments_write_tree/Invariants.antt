@@ -1,7 +1,6 @@
 use Rattle.std.proofs.Common.{◌+◌, ◌*◌}
 use Rattle.words.proofs.+write_arguments_write_tree.Given as goal
 
-
 abbrev pub decreases-write_arguments : goal.decreases-write_arguments
 decreases-write_arguments l = 2 * l.a
 

@@ -1,12 +1,9 @@
 -- The loop's invariant: the arguments counted and those up to the one reached are all; each turn reaches an earlier one.
 use Prim.Native.Nat.{◌+◌, ◌≤◌}
-use mathlib.Core.Path.{◌≡◌, ap}
-use native.Mathlib.Omega.{arith}
-use borrow.Author.Rules.{rules}
+use mathlib.Core.Path.{◌≡◌}
 use Rattle.readings.specs.Answer.{arg_count}
 use Rattle.pool.specs.Meaning.{entries}
 use Rattle.trees.specs.Asked.{args_at}
-use Rattle.trees.proofs.Arguments.{none_before, before, many-after}
 use Rattle.words.proofs.count_arguments.Given as goal
 
 abbrev pub invariant-loop-prev : goal.invariant-loop-prev

@@ -1,8 +1,5 @@
 -- Three stores, one after another, are three words put into the answer.
-use lib.ListN.{length-set}
-use native.Mathlib.Omega.{arith}
 use Rattle.plain.proofs.Buffers.{put_three}
-use borrow.Author.Rules.{rules}
 use Rattle.words.proofs.write_words.Goals as goal
 
 pub returns : goal.returns

@@ -1,9 +1,5 @@
 use mathlib.Core.Path.{refl}
 use Rattle.pool.proofs.Words.{taken-full, taken_next}
-use borrow.Author.Rules.{rules}
-use Rattle.pool.proofs.Pool.complete.Reads as reads
-use Rattle.pool.proofs.Pool.complete.Lts as lts
-use Rattle.pool.proofs.Pool.more.Reads as more-reads
 use Rattle.pool.proofs.Pool.complete.Goals as goal
 
 -- src/lib.rt:134:13
