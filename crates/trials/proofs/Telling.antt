@@ -4,7 +4,7 @@ use mathlib.Core.Path.{◌≡◌, refl, sym, ap, subst, ◌∙◌}
 use mathlib.Core.Bool.{true}
 use mathlib.Core.List.Memᴰ
 use mathlib.Core.List.{List, [], ◌∷◌, ◌++◌, map, Memᴰ}
-use Prim.Native.Nat.{ℕ, ◌+◌, ◌-◌, ◌≤◌, ◌<◌}
+use Prim.Native.Nat.{ℕ, ◌-◌, ◌≤◌, ◌<◌}
 use native.Mathlib.Omega.{arith}
 use lib.Dec.{eqb}
 use lib.ListN.{length, take, drop}
@@ -42,7 +42,6 @@ use Rattle.trials.specs.declared.Answer.TheVariants.{Matched, NoMatch, TooLong}
 use Rattle.walk.specs.declared.Walked.{Walked}
 use Rattle.walk.specs.declared.Walked.TheVariants.{Done, Stopped}
 use Rattle.walk.specs.declared.Refusal.{Refusal}
-use Rattle.walk.specs.declared.Refusal.TheVariants as Refusal
 use Rattle.walk.specs.Met.{number_of}
 use Rattle.trials.proofs.Choices.{chosen_at}
 use Rattle.trials.specs.Told.{says, listed_call, tried_pairs, Chosen, all_tops, by_prefix, Listed, Tried, listed, stopped, TryAsked, TellAsked, ReadAsked, stopped_by}

@@ -25,7 +25,6 @@ use Rattle.trials.specs.declared.Answer.TheVariants.{Matched, NoMatch, BadTable,
 use Rattle.trials.specs.declared.Checked.{Checked}
 use Rattle.trials.specs.declared.Checked.TheVariants.{Good, Bad}
 use Rattle.walk.specs.declared.Refusal.{Refusal}
-use Rattle.walk.specs.declared.Refusal.TheVariants as Refusal
 use Rattle.walk.specs.declared.Walked.{Walked}
 use Rattle.walk.specs.declared.Walked.TheVariants.{Done, Stopped}
 use Rattle.walk.specs.Met.{Made, number_of}

@@ -8,7 +8,7 @@ use native.Mathlib.Numerals.{add-one}
 use lib.ListN.{length, get_or, take, drop, take-append-drop}
 use lib.Seq.{take_all, take-suc, drop-cons}
 use Rattle.readings.specs.Scene.{scene_of}
-use Rattle.readings.specs.Plan.{Plan, done, stop, room, run, each}
+use Rattle.readings.specs.Plan.{Plan, done, stop, run, each}
 use Rattle.readings.specs.Walk.{Match}
 use Rattle.readings.proofs.Runs.{run-done, run_room}
 use Rattle.pool.specs.Log.{log_of}

@@ -15,7 +15,6 @@ use Rattle.syntax.specs.Walker.{held, moved_to, useful}
 use Rattle.syntax.specs.declared.walker.Walker.{Walker}
 use Rattle.defs.specs.Table.{parts_between}
 use Rattle.defs.specs.declared.ruledef.Part.{Part}
-use Rattle.defs.specs.declared.ruledef.Part.TheVariants as Part
 use Rattle.readings.specs.Tree.{Tree, nest}
 use Rattle.readings.specs.Scene.{scene_of}
 use Rattle.readings.specs.Answer.{exact_count}

@@ -9,7 +9,6 @@ use Rattle.plain.specs.Lists.{keep_if}
 use Rattle.defs.specs.Table.{is_parameter}
 use Rattle.defs.specs.declared.ruledef.Part.{Part}
 use Rattle.defs.specs.declared.ruledef.Part.TheVariants.{Whitespace, Expression}
-use Rattle.defs.specs.declared.ruledef.Part.TheVariants as Part
 use Rattle.readings.specs.Tree.{Tree, node, end}
 use Rattle.readings.specs.Scene.{Scene, scene_of}
 use Rattle.readings.specs.Answer.{exact_count, nested_count}

@@ -6,7 +6,7 @@ use Prim.Native.Nat.{ℕ, ◌≤◌}
 use native.Mathlib.Omega.{arith}
 use lib.ListN.{length}
 use Rattle.readings.specs.Tree.{node, Args, expr, nest}
-use Rattle.readings.specs.Plan.{Plan, keep, done, stop, room, run, mapped}
+use Rattle.readings.specs.Plan.{Plan, keep, done, stop, run, mapped}
 use Rattle.readings.specs.Walk.{Found}
 use Rattle.pool.specs.declared.ArgumentKind.{ArgumentKind}
 use Rattle.pool.specs.declared.ArgumentKind.TheVariants.{Expr, Nested}

@@ -8,23 +8,23 @@ use Rattle.answer.proofs.add_match.Goals as goal
 
 pub returns-then-count-found : goal.returns-then-count-found
 returns-then-count-found c =
- less-added _ _ _ (one-here _ _ c.requires.stored _ c.requires.below c.requires.top) c.requires.is (own-count _ _ c.requires.stored _ c.requires.below c.requires.top _ c.requires.counted c.count_at-count.ensures.answers) c.if-count-found.true
+    less-added _ _ _ (one-here _ _ c.requires.stored _ c.requires.below c.requires.top) c.requires.is (own-count _ _ c.requires.stored _ c.requires.below c.requires.top _ c.requires.counted c.count_at-count.ensures.answers) c.if-count-found.true
 
 pub tree_words-words-requires : goal.tree_words-words-requires
 tree_words-words-requires c =
- words-asked _ _ c.requires.stored _ c.requires.below c.requires.top _ c.requires.bounded
+    words-asked _ _ c.requires.stored _ c.requires.below c.requires.top _ c.requires.bounded
 
 pub overflow_add-result : goal.overflow_add-result
 overflow_add-result c =
- omega (arith, matches-fit _ _ _ _ c.requires.is, c.requires.stored.room)
+    omega (arith, matches-fit _ _ _ _ c.requires.is, c.requires.stored.room)
 
 pub overflow_add-result-then-count-found-2 : goal.overflow_add-result-then-count-found-2
 overflow_add-result-then-count-found-2 c =
- omega (arith, words-fit _ _ _ _ c.requires.is c.requires.bounded, few_words _ _ c.requires.stored _ c.requires.below c.requires.top _ c.requires.bounded, c.tree_words-words.ensures.answers, c.requires.stored.room)
+    omega (arith, words-fit _ _ _ _ c.requires.is c.requires.bounded, few_words _ _ c.requires.stored _ c.requires.below c.requires.top _ c.requires.bounded, c.tree_words-words.ensures.answers, c.requires.stored.room)
 
 pub returns-then-count-found-2 : goal.returns-then-count-found-2
 returns-then-count-found-2 c =
- same-added _ _ _
+    same-added _ _ _
     (one-here _ _ c.requires.stored _ c.requires.below c.requires.top)
     c.requires.is
     (own-count _ _ c.requires.stored _ c.requires.below c.requires.top _ c.requires.counted c.count_at-count.ensures.answers)
@@ -33,11 +33,11 @@ returns-then-count-found-2 c =
 
 pub overflow_add-result-2 : goal.overflow_add-result-2
 overflow_add-result-2 c =
- omega (arith, few_words _ _ c.requires.stored _ c.requires.below c.requires.top _ c.requires.bounded, c.tree_words-words.ensures.answers)
+    omega (arith, few_words _ _ c.requires.stored _ c.requires.below c.requires.top _ c.requires.bounded, c.tree_words-words.ensures.answers)
 
 pub returns : goal.returns
 returns c =
- greater-added _ _ _
+    greater-added _ _ _
     (one-here _ _ c.requires.stored _ c.requires.below c.requires.top)
     c.requires.is
     (own-count _ _ c.requires.stored _ c.requires.below c.requires.top _ c.requires.counted c.count_at-count.ensures.answers)

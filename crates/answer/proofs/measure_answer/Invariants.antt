@@ -1,11 +1,8 @@
 -- `answer::measure_answer` meets its contract. The loop's invariant: what was found is the measure of the matches among the
 -- records passed. The loop's measure is the number of records left.
-use mathlib.Core.Path.{◌≡◌, sym, ap, ◌∙◌}
+use mathlib.Core.Path.{◌≡◌}
 use Prim.Native.Nat.{◌-◌, ◌≤◌}
-use native.Mathlib.Omega.{arith}
 use Rattle.answer.specs.Measured.{trees_to, measured}
-use Rattle.answer.proofs.Tops.{none_yet, all-passed, none_here}
-use Rattle.answer.proofs.Greatest.{none-measured}
 use Rattle.answer.proofs.measure_answer.Given as goal
 
 abbrev pub invariant-loop-i : goal.invariant-loop-i

@@ -9,7 +9,6 @@ use Rattle.trials.proofs.Choices.{chosen-places}
 use Rattle.trials.proofs.Leading.{lead-asked, leads-none}
 use Rattle.leads.proofs.Laying.{leads-more}
 use Rattle.trials.proofs.Ordered.{table-refused, line_refused, chosen_by, line-told}
-use borrow.Author.Rules.{rules}
 use Rattle.matcher.proofs.call.Goals as goal
 
 pub returns-then-not-check_table : goal.returns-then-not-check_table
@@ -33,14 +32,14 @@ lead_rules-requires c = lead-asked {places₀ = replicate 2048 0}
 
 pub read_line-requires-clause-read_asked : goal.read_line-requires-clause-read_asked
 read_line-requires-clause-read_asked c = record {
-    table = passed c.check_table.ensures.answers c.if-not-check_table.false-raw;
-    lined = accepted-by _ _ _ _ c.check-checked.ensures.answers c.in-Good.is;
-    begins = c.ruleset_starts-starts.ensures.answers;
-    placed = c.place_rules.ensures.answers;
-    chosen = chosen_by c.args.order _ c.args.line.now c.args.sheet.now 0 0 [] (passed c.check_table.ensures.answers c.if-not-check_table.false-raw) _ c.rules_to_try-count.ensures.rules_after;
-    sized = refl;
-    fits = omega (arith, c.rules_to_try-count.ensures.upper_bound, c.rules_to_try-count.auto);
-  }
+  table = passed c.check_table.ensures.answers c.if-not-check_table.false-raw;
+  lined = accepted-by _ _ _ _ c.check-checked.ensures.answers c.in-Good.is;
+  begins = c.ruleset_starts-starts.ensures.answers;
+  placed = c.place_rules.ensures.answers;
+  chosen = chosen_by c.args.order _ c.args.line.now c.args.sheet.now 0 0 [] (passed c.check_table.ensures.answers c.if-not-check_table.false-raw) _ c.rules_to_try-count.ensures.rules_after;
+  sized = refl;
+  fits = omega (arith, c.rules_to_try-count.ensures.upper_bound, c.rules_to_try-count.auto);
+}
 
 pub read_line-requires-clause-leads : goal.read_line-requires-clause-leads
 read_line-requires-clause-leads c = leads-more (leads-none _) c.lead_rules.ensures.answers (omega (arith, c.lead_rules.auto))

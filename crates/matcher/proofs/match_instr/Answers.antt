@@ -1,5 +1,4 @@
 use Rattle.matcher.proofs.Promised.{scan-reads}
-use borrow.Author.Rules.{rules}
 use Rattle.matcher.proofs.match_instr.Goals as goal
 
 pub returns-clause-readings : goal.returns-clause-readings

@@ -1,5 +1,4 @@
 use Rattle.matcher.proofs.Promised.{lookup-reads, lookup-visits, lookup-tells}
-use borrow.Author.Rules.{rules}
 use Rattle.matcher.proofs.match_with_ruledef_map.Goals as goal
 
 pub returns-clause-readings : goal.returns-clause-readings

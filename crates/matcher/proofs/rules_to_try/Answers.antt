@@ -1,6 +1,5 @@
 -- `matcher::rules_to_try` meets its contract.
 use Rattle.trials.proofs.Ordered.{listed-scan, listed-lookup}
-use borrow.Author.Rules.{rules}
 use Rattle.matcher.proofs.rules_to_try.Goals as goal
 
 pub returns-in-Scan-clause-rules_after : goal.returns-in-Scan-clause-rules_after

@@ -3,7 +3,6 @@ use native.Mathlib.Omega.{arith}
 use Rattle.plain.proofs.Calls.{refused, passed}
 use Rattle.line.proofs.Faults.{fault-small, line-good, line-bad}
 use Rattle.trials.proofs.Checks.{bytes-bad, extents-bad, budget-none, budget-great, base-great, all-good}
-use borrow.Author.Rules.{rules}
 use Rattle.trials.proofs.check.Goals as goal
 
 pub overflow_cast-result : goal.overflow_cast-result

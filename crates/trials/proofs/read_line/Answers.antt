@@ -2,7 +2,6 @@
 use mathlib.Core.Path.{refl}
 use native.Mathlib.Omega.{arith}
 use Rattle.trials.proofs.Telling.{line-good, try-asked, listed_by, stopped-by, call-within, call-stopped, call-left, call-asked, call-told}
-use borrow.Author.Rules.{rules}
 use Rattle.trials.proofs.read_line.Goals as goal
 
 pub find_places-requires-clause-good_line : goal.find_places-requires-clause-good_line

@@ -1,6 +1,5 @@
 use native.Mathlib.Omega.{arith}
 use Rattle.trials.proofs.Telling.{words_of, tell_none, tell-long, tell-matched}
-use borrow.Author.Rules.{rules}
 use Rattle.trials.proofs.tell.Goals as goal
 
 pub returns-then-measure-eq0 : goal.returns-then-measure-eq0

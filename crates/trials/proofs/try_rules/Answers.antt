@@ -1,9 +1,6 @@
-use Prim.Native.Nat.{◌-◌}
 use native.Mathlib.Omega.{arith}
-use lib.ListN.{take}
 use mathlib.Core.Path.{refl}
-use Rattle.trials.proofs.Tries.{TriesDid, tries-start, words-there, fields-small, try-ready, try-stands, tries-again, tries-stop, tries-skip, tries-spent, tries-end}
-use borrow.Author.Rules.{rules}
+use Rattle.trials.proofs.Tries.{tries-start, words-there, try-ready, try-stands, tries-again, tries-stop, tries-skip, tries-spent, tries-end}
 use Rattle.trials.proofs.try_rules.Goals as goal
 
 pub loop-i-init : goal.loop-i-init

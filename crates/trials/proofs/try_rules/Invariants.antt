@@ -1,10 +1,7 @@
 -- `trials::try_rules` meets its contract: what the rules tried so far left is what their plan leaves.
 use Prim.Native.Nat.{◌-◌}
-use native.Mathlib.Omega.{arith}
 use lib.ListN.{take}
-use mathlib.Core.Path.{refl}
-use Rattle.trials.proofs.Tries.{TriesDid, tries-start, words-there, fields-small, try-ready, try-stands, tries-again, tries-stop, tries-skip, tries-spent, tries-end}
-use borrow.Author.Rules.{rules}
+use Rattle.trials.proofs.Tries.{TriesDid}
 use Rattle.trials.proofs.try_rules.Given as goal
 
 abbrev pub invariant-loop-i : goal.invariant-loop-i

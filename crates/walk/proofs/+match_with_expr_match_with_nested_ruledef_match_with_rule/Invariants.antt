@@ -1,14 +1,10 @@
 -- The cycle of the three functions. The visits left fall: 2 * visits for the rule walk, one more for the two steps, which a
 -- rule walk calls after its visit. Each answer is a law of the files beside, at the place where the code has come.
-use mathlib.Core.Path.{refl, ap, ◌∙◌}
 use Prim.Native.Nat.{◌+◌, ◌-◌, ◌*◌}
-use native.Mathlib.Omega.{arith}
-use lib.ListN.{length}
-use borrow.Author.Rules.{rules}
-use Rattle.walk.proofs.Places.{Along, along-by, along-start, along-stored, along-small, along-ended, along-spent, along-end, along-exact, along-no-exact, along-whitespace, along-no-whitespace, along-expression, along-nested, step-ready, step-stands, ruleset-few}
-use Rattle.walk.proofs.Exprs.{ExprDid, expr-start, expr-end, expr-fits, expr-full, expr-counted, expr-stands, expr-ready, expr-again, expr-halt, ends-three}
-use Rattle.walk.proofs.Rules.{RulesDid, LimitsDid, starts-long, starts-ordered, starts-few, rule-ready, rule-stands, rules-again, rules-stop, rules-skip, rules-spent, lead-there, rules-start, limits-start, limits-again, limits-stop, limits-two, inner-within}
-use Rattle.walk.proofs.Nests.{NestDid, nest-start, nest-skip, inner-counts-first, nest-fits, nest-member, nest-full, nest-counted, nest-stands, nest-ready, nest-again, nest-halt, nest-used, nested-deep, nested-stop, nested-grown, nested-since, nested-within, nested-below, nested-halt, nested-done}
+use Rattle.walk.proofs.Places.{Along}
+use Rattle.walk.proofs.Exprs.{ExprDid}
+use Rattle.walk.proofs.Rules.{RulesDid, LimitsDid}
+use Rattle.walk.proofs.Nests.{NestDid}
 use Rattle.walk.proofs.+match_with_expr_match_with_nested_ruledef_match_with_rule.Given as goal
 
 abbrev pub invariant-match_with_expr-loop-i : goal.invariant-match_with_expr-loop-i

@@ -4,7 +4,6 @@ use mathlib.Core.Path.{◌≡◌, sym, ap, ◌∙◌}
 use mathlib.Core.Bool.{not}
 use lib.ListN.{length}
 use Rattle.walk.proofs.Ending.{not-over, is-over, finish-short, finish-full, finish-kept}
-use borrow.Author.Rules.{rules}
 use Rattle.walk.proofs.finish.Goals as goal
 use Rattle.walk.proofs.finish.Goals.{then-depth-eq0+else-not-is_over, else-depth-eq0}
 
@@ -14,15 +13,15 @@ returns-then-not-is_over c = finish-short _ _ _ _ _ _ _ c.requires.stored c.if-d
 pub returns-in-Taken : goal.returns-in-Taken
 returns-in-Taken c =
     let goes : c.args.place.depth ≡ 0 → c.args.walker.cursor ≡ length c.args.line.now = λ e. elim c.if-depth-eq0.branch [
-      then-depth-eq0+else-not-is_over w ↦ is-over _ _ c.requires.cursor_le_limit (c.requires.limit_value e) (sym (ap not w.is_over.ensures.answers) ∙ w.if-not-is_over.false-raw)
-    | else-depth-eq0 w ↦ absurd (omega (arith, w.if-depth-eq0.false, e))
+      | then-depth-eq0+else-not-is_over w ↦ is-over _ _ c.requires.cursor_le_limit (c.requires.limit_value e) (sym (ap not w.is_over.ensures.answers) ∙ w.if-not-is_over.false-raw)
+      | else-depth-eq0 w ↦ absurd (omega (arith, w.if-depth-eq0.false, e))
     ] in
     finish-kept _ _ _ _ _ _ _ c.requires.stored _ _ goes c.requires.args_le_used (rw c.get_cursor_index-end.ensures.answers at (rw c.in-Taken.is at c.complete.ensures.answers.log)) _ c.requires.ended
 
 pub returns-in-Full : goal.returns-in-Full
 returns-in-Full c =
     let goes : c.args.place.depth ≡ 0 → c.args.walker.cursor ≡ length c.args.line.now = λ e. elim c.if-depth-eq0.branch [
-      then-depth-eq0+else-not-is_over w ↦ is-over _ _ c.requires.cursor_le_limit (c.requires.limit_value e) (sym (ap not w.is_over.ensures.answers) ∙ w.if-not-is_over.false-raw)
-    | else-depth-eq0 w ↦ absurd (omega (arith, w.if-depth-eq0.false, e))
+      | then-depth-eq0+else-not-is_over w ↦ is-over _ _ c.requires.cursor_le_limit (c.requires.limit_value e) (sym (ap not w.is_over.ensures.answers) ∙ w.if-not-is_over.false-raw)
+      | else-depth-eq0 w ↦ absurd (omega (arith, w.if-depth-eq0.false, e))
     ] in
     finish-full _ _ _ _ _ _ _ c.requires.stored _ goes (rw c.in-Full.is at c.complete.ensures.answers.log) _ c.requires.ended

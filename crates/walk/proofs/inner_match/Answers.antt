@@ -1,9 +1,4 @@
 use Rattle.walk.proofs.Inners.{inner-argument, inner-other, inner-same, inner-new}
-use borrow.Author.Rules.{rules}
-use Rattle.walk.proofs.inner_match.Reads as reads
-use Rattle.walk.proofs.inner_match.Lts as lts
-use Rattle.walk.proofs.is_duplicate.Reads as is-duplicate-reads
-use Rattle.pool.proofs.record_at.Reads as record-at-reads
 use Rattle.walk.proofs.inner_match.Goals as goal
 
 -- src/walk.rt:189:17

@@ -1,15 +1,7 @@
 use Rattle.pool.proofs.Words.{digits}
-use mathlib.Core.Path.{◌≡◌, refl, sym, ◌∙◌}
-use Prim.Native.Nat.{ℕ, ◌-◌, ◌≤◌}
+use mathlib.Core.Path.{refl, sym, ◌∙◌}
 use native.Mathlib.Omega.{arith}
-use Rattle.readings.specs.Walk.{any_same, same_match}
-use Rattle.pool.specs.Meaning.{tree_at, gathered, entries}
-use Rattle.walk.specs.Met.{made}
 use Rattle.walk.proofs.Inners.{skipped, found-same, found-other, asked-none}
-use Rattle.walk.proofs.is_duplicate.Reads as reads
-use Rattle.walk.proofs.is_duplicate.Lts as lts
-use Rattle.pool.proofs.depth_at.Reads as depth-at-reads
-use Rattle.trees.proofs.is_same.Reads as is-same-reads
 use Rattle.walk.proofs.is_duplicate.Goals as goal
 
 -- src/walk.rt:159:17
