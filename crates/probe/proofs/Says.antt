@@ -8,7 +8,6 @@ use Rattle.syntax.specs.declared.walker.Walker.{Walker}
 use Rattle.syntax.specs.declared.walker.Step.{Step}
 use Rattle.syntax.specs.declared.walker.Step.TheVariants.{Past, Stayed}
 use Rattle.syntax.specs.declared.walker.Lookahead.{Lookahead}
-use Rattle.syntax.specs.declared.walker.Lookahead.TheVariants as Lookahead
 use Rattle.syntax.specs.Walker.{step_says}
 use Rattle.syntax.specs.Cut.{cut_says}
 use Rattle.ruledef_map.specs.declared.Prefix.{Prefix}

@@ -10,7 +10,6 @@ use Rattle.ruledef_map.specs.RuledefMap.{line_prefix}
 use Rattle.readings.specs.Scene.{Scene}
 use Rattle.readings.specs.Walk.{top_pairs}
 use Rattle.readings.specs.Lookup.{found_pairs}
-use Rattle.readings.proofs.Numbers.{bytes}
 use Rattle.readings.proofs.Theorems.{scan-demand, lookup-demand}
 use Rattle.lines.specs.Lines.{Line, lines_of, program_fits}
 use Rattle.runs.specs.Program.{taken, run_lines, line_call, scan_program, lookup_program}

@@ -1,6 +1,5 @@
 -- `program::lookup_program` meets its contract.
 use Rattle.program.proofs.Promised.{lookup-reads, lookup-agrees}
-use borrow.Author.Rules.{rules}
 use Rattle.program.proofs.lookup_program.Goals as goal
 
 pub returns-clause-readings : goal.returns-clause-readings

@@ -1,6 +1,5 @@
 -- `program::match_program` meets its contract.
 use Rattle.program.proofs.Promised.{scan-reads}
-use borrow.Author.Rules.{rules}
 use Rattle.program.proofs.match_program.Goals as goal
 
 pub returns-clause-readings : goal.returns-clause-readings

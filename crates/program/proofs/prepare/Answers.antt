@@ -4,9 +4,7 @@ use mathlib.Core.Path.{refl}
 use mathlib.Core.List.{[]}
 use Rattle.trials.proofs.Choices.{tops-listed}
 use Rattle.trials.proofs.Leading.{lead-asked}
-use Rattle.leads.proofs.Laying.{leads-more}
 use Rattle.program.proofs.Preparing.{place-asked, order-asked, scan-ready, lookup-ready}
-use borrow.Author.Rules.{rules}
 use Rattle.program.proofs.prepare.Goals as goal
 
 pub place_rules-requires : goal.place_rules-requires

@@ -2,7 +2,6 @@
 use mathlib.Core.Path.{refl}
 use Rattle.runs.specs.Program.{taken}
 use Rattle.program.proofs.Rows.{row-case}
-use borrow.Author.Rules.{rules}
 use Rattle.program.proofs.row_of.Goals as goal
 
 pub returns-in-Matched : goal.returns-in-Matched

@@ -2,7 +2,6 @@
 use Rattle.trials.proofs.Checks.{accepted-by}
 use Rattle.trials.proofs.Ordered.{line_refused, line-told}
 use Rattle.program.proofs.Choosing.{read_asked}
-use borrow.Author.Rules.{rules}
 use Rattle.program.proofs.run_line.Goals as goal
 
 pub returns-in-Bad-clause-tells : goal.returns-in-Bad-clause-tells

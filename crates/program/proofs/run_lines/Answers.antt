@@ -1,9 +1,6 @@
-use Prim.Native.Nat.{◌-◌}
 use mathlib.Core.Path.{refl}
-use lib.ListN.{length}
 use native.Mathlib.Omega.{arith}
-use Rattle.program.proofs.Running.{Turn, turn-first, turn_more, row_within, used-small, words_small, ends-after, ends-within, sheet-within, running-all, rows-first, used-few}
-use borrow.Author.Rules.{rules}
+use Rattle.program.proofs.Running.{turn-first, turn_more, used-small, words_small, ends-after, ends-within, sheet-within, running-all}
 use Rattle.program.proofs.run_lines.Goals as goal
 
 pub loop-i-init : goal.loop-i-init

@@ -1,10 +1,7 @@
 -- `program::run_lines` meets its contract: at each turn what was done and what is left are the whole program.
 use Prim.Native.Nat.{◌-◌}
-use mathlib.Core.Path.{refl}
 use lib.ListN.{length}
-use native.Mathlib.Omega.{arith}
-use Rattle.program.proofs.Running.{Turn, turn-first, turn_more, row_within, used-small, words_small, ends-after, ends-within, sheet-within, running-all, rows-first, used-few}
-use borrow.Author.Rules.{rules}
+use Rattle.program.proofs.Running.{Turn}
 use Rattle.program.proofs.run_lines.Given as goal
 
 abbrev pub invariant-loop-i : goal.invariant-loop-i

@@ -1,11 +1,8 @@
 -- `program::run_program` meets its contract.
-use native.Mathlib.Omega.{arith}
-use mathlib.Core.Path.{refl}
 use Rattle.plain.proofs.Calls.{refused, passed}
 use Rattle.trials.specs.Orders.{order_of}
 use Rattle.runs.proofs.Wholes.{bad-table, bad-program, program-told}
 use Rattle.trials.proofs.Leading.{leads-none}
-use borrow.Author.Rules.{rules}
 use Rattle.program.proofs.run_program.Goals as goal
 
 pub returns-then-not-check_table : goal.returns-then-not-check_table
