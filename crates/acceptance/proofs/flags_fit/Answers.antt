@@ -9,10 +9,10 @@ loop-set-init c = every-none _
 
 pub returns-then-word_at-gt1 : goal.returns-then-word_at-gt1
 unfolding flags_fit
-returns-then-word_at-gt1 c = one-failed _ _ _ (omega arith) (flag-fails _ _ _ c.word_at.ensures.answers (omega (arith, c.if-word_at-gt1.true)))
+returns-then-word_at-gt1 c = one-failed _ _ _ (omega arith) (flag-fails _ _ _ c.word_at.ensures.answers (omega arith))
 
 pub loop-set-preserved : goal.loop-set-preserved
-loop-set-preserved c = every-step _ _ c.loop-set.invariant (flag-fits _ _ _ c.word_at.ensures.answers (omega (arith, c.if-word_at-gt1.false)))
+loop-set-preserved c = every-step _ _ c.loop-set.invariant (flag-fits _ _ _ c.word_at.ensures.answers (omega arith))
 
 pub returns : goal.returns
 unfolding flags_fit

@@ -4,4 +4,4 @@ use Rattle.acceptance.proofs.Check.{few-parts}
 use Rattle.acceptance.proofs.has_few_parameters.Goals as goal
 
 pub returns-then-field_at-le-MOST_PARAMETERS : goal.returns-then-field_at-le-MOST_PARAMETERS
-returns-then-field_at-le-MOST_PARAMETERS c = few-parts _ _ _ c.field_at.ensures.answers (omega (arith, c.if-field_at-le-MOST_PARAMETERS.true))
+returns-then-field_at-le-MOST_PARAMETERS c = few-parts _ _ _ c.field_at.ensures.answers (omega arith)

@@ -12,11 +12,11 @@ pub returns-then-parts-field_at : goal.returns-then-parts-field_at
 returns-then-parts-field_at c = ranges-fail _ _ (omega arith) (range-past _ _ _ _ _ c.requires.parts_value c.field_at.ensures.answers c.field_at-count.ensures.answers c.if-parts-field_at.true)
 
 pub returns-then-count-gt-MOST_PARTS_A_RULE : goal.returns-then-count-gt-MOST_PARTS_A_RULE
-returns-then-count-gt-MOST_PARTS_A_RULE c = ranges-fail _ _ (omega arith) (range-long _ _ _ _ _ c.requires.parts_value c.field_at.ensures.answers c.field_at-count.ensures.answers (omega (arith, c.if-count-gt-MOST_PARTS_A_RULE.true)))
+returns-then-count-gt-MOST_PARTS_A_RULE c = ranges-fail _ _ (omega arith) (range-long _ _ _ _ _ c.requires.parts_value c.field_at.ensures.answers c.field_at-count.ensures.answers (omega arith))
 
 pub loop-rule-preserved : goal.loop-rule-preserved
 loop-rule-preserved c = (
-  every-step _ _ c.loop-rule.invariant.0 (range-fits _ _ _ _ _ c.requires.parts_value c.field_at.ensures.answers c.field_at-count.ensures.answers (omega (arith, c.if-parts-field_at.false)) (omega (arith, c.if-count-gt-MOST_PARTS_A_RULE.false))),
+  every-step _ _ c.loop-rule.invariant.0 (range-fits _ _ _ _ _ c.requires.parts_value c.field_at.ensures.answers c.field_at-count.ensures.answers (omega arith) (omega arith)),
   (ap₂ ◌+◌ c.loop-rule.invariant.1.0 c.field_at-count.ensures.answers ∙ sym (sum_more _ _), (omega arith, omega arith)),
 )
 

@@ -6,4 +6,4 @@ pub loop-place-init : goal.loop-place-init
 loop-place-init c = (omega arith, omega arith, sought-none c.args.text.now c.args.at c.args.byte)
 
 pub loop-place-preserved : goal.loop-place-preserved
-loop-place-preserved c = (omega arith, omega arith, sought-more c.args.text.now c.args.at c.loop-place.place c.args.byte c.loop-place.invariant.0 (omega arith) (λ e. omega (arith, e, c.if-text-place.false)) c.loop-place.invariant.2)
+loop-place-preserved c = (omega arith, omega arith, sought-more c.args.text.now c.args.at c.loop-place.place c.args.byte c.loop-place.invariant.0 (omega arith) (λ e. omega arith) c.loop-place.invariant.2)

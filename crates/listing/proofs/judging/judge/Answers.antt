@@ -12,7 +12,7 @@ pub next_line-requires-clause-rules_bound : goal.next_line-requires-clause-rules
 next_line-requires-clause-rules_bound c = let z = few-sizes c.args.text.now c.loop-at.at _ _ _ _ c.loop-at.invariant in z.1
 
 pub returns-then-end-text : goal.returns-then-end-text
-returns-then-end-text c = record { says = bad-at c.next_line.ensures (from-unended c.args.text.now c.loop-at.at _ _ _ _ c.loop-at.invariant c.find-end.result (omega (arith, c.loop-at-test.true)) c.find-end.ensures.answers (omega (arith, c.if-end-text.true))) }
+returns-then-end-text c = record { says = bad-at c.next_line.ensures (from-unended c.args.text.now c.loop-at.at _ _ _ _ c.loop-at.invariant c.find-end.result (omega arith) c.find-end.ensures.answers (omega arith)) }
 
 pub next_line-requires-in_default-clause-sets_bound : goal.next_line-requires-in_default-clause-sets_bound
 next_line-requires-in_default-clause-sets_bound c = let z = few-sizes c.args.text.now c.loop-at.at _ _ _ _ c.loop-at.invariant in z.0
@@ -21,16 +21,16 @@ pub next_line-requires-in_default-clause-rules_bound : goal.next_line-requires-i
 next_line-requires-in_default-clause-rules_bound c = let z = few-sizes c.args.text.now c.loop-at.at _ _ _ _ c.loop-at.invariant in z.1
 
 pub returns-in_default : goal.returns-in_default
-returns-in_default c = record { says = bad-at c.next_line-in_default.ensures (from-bad c.args.text.now c.loop-at.at _ _ _ _ c.loop-at.invariant c.find-end.result c.find-end.ensures.answers (omega (arith, c.find-end.ensures.answers.to, c.if-end-text.false)) (says-bad _ c.judge_line-judged.result c.in_default.is (c.judge_line-judged.ensures.says c.loop-at.invariant.so_far c.loop-at.invariant.counted))) }
+returns-in_default c = record { says = bad-at c.next_line-in_default.ensures (from-bad c.args.text.now c.loop-at.at _ _ _ _ c.loop-at.invariant c.find-end.result c.find-end.ensures.answers (omega (arith, c.find-end.ensures.answers.to)) (says-bad _ c.judge_line-judged.result c.in_default.is (c.judge_line-judged.ensures.says c.loop-at.invariant.so_far c.loop-at.invariant.counted))) }
 
 pub loop-at-preserved : goal.loop-at-preserved
-loop-at-preserved c = from_next c.args.text.now c.loop-at.at _ _ _ _ c.loop-at.invariant c.find-end.result c.find-end.ensures.answers (omega (arith, c.find-end.ensures.answers.to, c.if-end-text.false)) _ _ _ _ (says-fits _ c.judge_line-judged.result _ c.in-Fits.is (c.judge_line-judged.ensures.says c.loop-at.invariant.so_far c.loop-at.invariant.counted))
+loop-at-preserved c = from_next c.args.text.now c.loop-at.at _ _ _ _ c.loop-at.invariant c.find-end.result c.find-end.ensures.answers (omega (arith, c.find-end.ensures.answers.to)) _ _ _ _ (says-fits _ c.judge_line-judged.result _ c.in-Fits.is (c.judge_line-judged.ensures.says c.loop-at.invariant.so_far c.loop-at.invariant.counted))
 
 pub next_line-requires-then-sizes-eq0-clause-rules_bound : goal.next_line-requires-then-sizes-eq0-clause-rules_bound
 next_line-requires-then-sizes-eq0-clause-rules_bound c = let z = few-sizes c.args.text.now c.loop-at.at _ _ _ _ c.loop-at.invariant in z.1
 
 pub returns-then-sizes-eq0 : goal.returns-then-sizes-eq0
-returns-then-sizes-eq0 c = record { says = bad-at c.next_line-then-sizes-eq0.ensures (from-none c.args.text.now c.loop-at.at _ _ _ _ c.loop-at.invariant (omega (arith, c.loop-at-test.false)) (omega (arith, c.if-sizes-eq0.true, few-sizes c.args.text.now c.loop-at.at _ _ _ _ c.loop-at.invariant))) }
+returns-then-sizes-eq0 c = record { says = bad-at c.next_line-then-sizes-eq0.ensures (from-none c.args.text.now c.loop-at.at _ _ _ _ c.loop-at.invariant (omega arith) (omega (arith, few-sizes c.args.text.now c.loop-at.at _ _ _ _ c.loop-at.invariant))) }
 
 pub returns : goal.returns
-returns c = record { says = from-good c.args.text.now c.loop-at.at _ _ _ _ c.loop-at.invariant (omega (arith, c.loop-at-test.false)) (λ e. omega (arith, e, c.if-sizes-eq0.false)) }
+returns c = record { says = from-good c.args.text.now c.loop-at.at _ _ _ _ c.loop-at.invariant (omega arith) (λ e. omega arith) }

@@ -17,7 +17,7 @@ pub overflow_add-words-in-Good-2 : goal.overflow_add-words-in-Good-2
 overflow_add-words-in-Good-2 c = omega (arith, listed_small c.args.text.now _ _ _ (said-listed c.args.text.now _ _ c.in-Good.is c.judge-judged.ensures.says))
 
 pub returns-then-table-words : goal.returns-then-table-words
-returns-then-table-words c = record { answers = said-short c.args.text.now _ _ _ c.args.table.now (said-listed c.args.text.now _ _ c.in-Good.is c.judge-judged.ensures.says) (omega (arith, c.if-table-words.true)) }
+returns-then-table-words c = record { answers = said-short c.args.text.now _ _ _ c.args.table.now (said-listed c.args.text.now _ _ c.in-Good.is c.judge-judged.ensures.says) (omega arith) }
 
 pub overflow_cast-result-in-Good : goal.overflow_cast-result-in-Good
 overflow_cast-result-in-Good c = omega (arith, listed_small c.args.text.now _ _ _ (said-listed c.args.text.now _ _ c.in-Good.is c.judge-judged.ensures.says))
@@ -26,4 +26,4 @@ pub returns-in-BadAt : goal.returns-in-BadAt
 returns-in-BadAt c = record { answers = said-bad c.args.text.now c.args.table.now _ _ c.in-BadAt.is c.judge-judged.ensures.says }
 
 pub returns-else-table-words : goal.returns-else-table-words
-returns-else-table-words c = record { answers = said-whole c.args.text.now _ _ _ c.args.table.now _ (said-listed c.args.text.now _ _ c.in-Good.is c.judge-judged.ensures.says) (omega (arith, c.if-table-words.false)) c.lay_table.ensures.laid }
+returns-else-table-words c = record { answers = said-whole c.args.text.now _ _ _ c.args.table.now _ (said-listed c.args.text.now _ _ c.in-Good.is c.judge-judged.ensures.says) (omega arith) c.lay_table.ensures.laid }

@@ -6,8 +6,8 @@ use Rattle.resolver.proofs.instruction.mark.Goals as goal
 
 pub returns-then-guesses-gt0 : goal.returns-then-guesses-gt0
 returns-then-guesses-gt0 c =
-    record { marked = c.mark_all.ensures.marked ∙ all-marked c.args.words.now c.requires.guesses c.requires.good (omega (arith, c.if-guesses-gt0.true)) }
+    record { marked = c.mark_all.ensures.marked ∙ all-marked c.args.words.now c.requires.guesses c.requires.good (omega arith) }
 
 pub returns-else-guesses-gt0 : goal.returns-else-guesses-gt0
 returns-else-guesses-gt0 c =
-    record { marked = none-marked c.args.words.now c.requires.guesses c.requires.good (omega (arith, c.if-guesses-gt0.false)) }
+    record { marked = none-marked c.args.words.now c.requires.guesses c.requires.good (omega arith) }

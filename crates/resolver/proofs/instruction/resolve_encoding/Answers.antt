@@ -34,55 +34,55 @@ no_tie : (last : Bool) (n : ℕ) → ((last ≡ true) × (n ≤ 1)) ⊎ (last �
 no_tie last n = ⊎_elim (λ few. and-false-right last _ (le-ltb 1 n few.1)) (λ guessing. and-false-left last _ guessing)
 
 pub returns-then-words-gt-MOST_WORDS-clause-answers : goal.returns-then-words-gt-MOST_WORDS-clause-answers
-returns-then-words-gt-MOST_WORDS-clause-answers c = (too_many _ _ _ (omega (arith, c.if-words-gt-MOST_WORDS.true))).0
+returns-then-words-gt-MOST_WORDS-clause-answers c = (too_many _ _ _ (omega arith)).0
 
 pub returns-then-words-gt-MOST_WORDS-clause-last_pass : goal.returns-then-words-gt-MOST_WORDS-clause-last_pass
-returns-then-words-gt-MOST_WORDS-clause-last_pass c = (too_many _ _ _ (omega (arith, c.if-words-gt-MOST_WORDS.true))).1
+returns-then-words-gt-MOST_WORDS-clause-last_pass c = (too_many _ _ _ (omega arith)).1
 
 pub returns-then-tally-gt0-clause-answers : goal.returns-then-tally-gt0-clause-answers
-returns-then-tally-gt0-clause-answers c = (bad-word _ _ _ (omega (arith, c.if-words-gt-MOST_WORDS.false)) c.judge-tally.ensures.tally c.if-tally-gt0.true).0
+returns-then-tally-gt0-clause-answers c = (bad-word _ _ _ (omega arith) c.judge-tally.ensures.tally c.if-tally-gt0.true).0
 
 pub returns-then-tally-gt0-clause-last_pass : goal.returns-then-tally-gt0-clause-last_pass
-returns-then-tally-gt0-clause-last_pass c = (bad-word _ _ _ (omega (arith, c.if-words-gt-MOST_WORDS.false)) c.judge-tally.ensures.tally c.if-tally-gt0.true).1
+returns-then-tally-gt0-clause-last_pass c = (bad-word _ _ _ (omega arith) c.judge-tally.ensures.tally c.if-tally-gt0.true).1
 
 pub returns-then-tally-eq0-clause-answers : goal.returns-then-tally-eq0-clause-answers
-returns-then-tally-eq0-clause-answers c = (none-resolved _ _ _ (none-bad (omega (arith, c.if-words-gt-MOST_WORDS.false)) c.judge-tally.ensures.tally c.if-tally-gt0.false) c.if-tally-eq0.true).0
+returns-then-tally-eq0-clause-answers c = (none-resolved _ _ _ (none-bad (omega arith) c.judge-tally.ensures.tally c.if-tally-gt0.false) c.if-tally-eq0.true).0
 
 pub returns-then-tally-eq0-clause-last_pass : goal.returns-then-tally-eq0-clause-last_pass
-returns-then-tally-eq0-clause-last_pass c = (none-resolved _ _ _ (none-bad (omega (arith, c.if-words-gt-MOST_WORDS.false)) c.judge-tally.ensures.tally c.if-tally-gt0.false) c.if-tally-eq0.true).1
+returns-then-tally-eq0-clause-last_pass c = (none-resolved _ _ _ (none-bad (omega arith) c.judge-tally.ensures.tally c.if-tally-gt0.false) c.if-tally-eq0.true).1
 
 pub returns-then-tally-eq0-2-clause-answers : goal.returns-then-tally-eq0-2-clause-answers
-returns-then-tally-eq0-2-clause-answers c = (none-known _ _ _ (none-bad (omega (arith, c.if-words-gt-MOST_WORDS.false)) c.judge-tally.ensures.tally c.if-tally-gt0.false) c.if-tally-eq0.false c.if-tally-eq0-2.true).0
+returns-then-tally-eq0-2-clause-answers c = (none-known _ _ _ (none-bad (omega arith) c.judge-tally.ensures.tally c.if-tally-gt0.false) c.if-tally-eq0.false c.if-tally-eq0-2.true).0
 
 pub returns-then-tally-eq0-2-clause-last_pass : goal.returns-then-tally-eq0-2-clause-last_pass
-returns-then-tally-eq0-2-clause-last_pass c = (none-known _ _ _ (none-bad (omega (arith, c.if-words-gt-MOST_WORDS.false)) c.judge-tally.ensures.tally c.if-tally-gt0.false) c.if-tally-eq0.false c.if-tally-eq0-2.true).1
+returns-then-tally-eq0-2-clause-last_pass c = (none-known _ _ _ (none-bad (omega arith) c.judge-tally.ensures.tally c.if-tally-gt0.false) c.if-tally-eq0.false c.if-tally-eq0-2.true).1
 
 pub smallest-least-requires : goal.smallest-least-requires
-smallest-least-requires c = record { good = (none-bad (omega (arith, c.if-words-gt-MOST_WORDS.false)) c.judge-tally.ensures.tally c.if-tally-gt0.false).good }
+smallest-least-requires c = record { good = (none-bad (omega arith) c.judge-tally.ensures.tally c.if-tally-gt0.false).good }
 
 pub mark-requires-clause-good : goal.mark-requires-clause-good
-mark-requires-clause-good c = (none-bad (omega (arith, c.if-words-gt-MOST_WORDS.false)) c.judge-tally.ensures.tally c.if-tally-gt0.false).good
+mark-requires-clause-good c = (none-bad (omega arith) c.judge-tally.ensures.tally c.if-tally-gt0.false).good
 
 pub returns-then-count-gt1-clause-answers : goal.returns-then-count-gt1-clause-answers
-returns-then-count-gt1-clause-answers c = (tie-on-last _ _ _ (found (omega (arith, c.if-words-gt-MOST_WORDS.false)) c.judge-tally.ensures.tally c.if-tally-gt0.false c.if-tally-eq0.false c.if-tally-eq0-2.false c.smallest-least.ensures.least) (cc) (lt-ltb _ _ c.if-count-gt1.true) c.mark.ensures.marked).0
+returns-then-count-gt1-clause-answers c = (tie-on-last _ _ _ (found (omega arith) c.judge-tally.ensures.tally c.if-tally-gt0.false c.if-tally-eq0.false c.if-tally-eq0-2.false c.smallest-least.ensures.least) (cc) (lt-ltb _ _ c.if-count-gt1.true) c.mark.ensures.marked).0
 
 pub returns-then-count-gt1-clause-last_pass : goal.returns-then-count-gt1-clause-last_pass
-returns-then-count-gt1-clause-last_pass c = (tie-on-last _ _ _ (found (omega (arith, c.if-words-gt-MOST_WORDS.false)) c.judge-tally.ensures.tally c.if-tally-gt0.false c.if-tally-eq0.false c.if-tally-eq0-2.false c.smallest-least.ensures.least) (cc) (lt-ltb _ _ c.if-count-gt1.true) c.mark.ensures.marked).1
+returns-then-count-gt1-clause-last_pass c = (tie-on-last _ _ _ (found (omega arith) c.judge-tally.ensures.tally c.if-tally-gt0.false c.if-tally-eq0.false c.if-tally-eq0-2.false c.smallest-least.ensures.least) (cc) (lt-ltb _ _ c.if-count-gt1.true) c.mark.ensures.marked).1
 
 pub returns-then-count-chosen-clause-answers : goal.returns-then-count-chosen-clause-answers
-returns-then-count-chosen-clause-answers c = (no_room _ _ _ (found (omega (arith, c.if-words-gt-MOST_WORDS.false)) c.judge-tally.ensures.tally c.if-tally-gt0.false c.if-tally-eq0.false c.if-tally-eq0-2.false c.smallest-least.ensures.least) (no_tie _ _ c.else-last.either) (omega (arith, c.if-count-chosen.true))).0
+returns-then-count-chosen-clause-answers c = (no_room _ _ _ (found (omega arith) c.judge-tally.ensures.tally c.if-tally-gt0.false c.if-tally-eq0.false c.if-tally-eq0-2.false c.smallest-least.ensures.least) (no_tie _ _ c.else-last.either) (omega arith)).0
 
 pub returns-then-count-chosen-clause-last_pass : goal.returns-then-count-chosen-clause-last_pass
-returns-then-count-chosen-clause-last_pass c = (no_room _ _ _ (found (omega (arith, c.if-words-gt-MOST_WORDS.false)) c.judge-tally.ensures.tally c.if-tally-gt0.false c.if-tally-eq0.false c.if-tally-eq0-2.false c.smallest-least.ensures.least) (no_tie _ _ c.else-last.either) (omega (arith, c.if-count-chosen.true))).1
+returns-then-count-chosen-clause-last_pass c = (no_room _ _ _ (found (omega arith) c.judge-tally.ensures.tally c.if-tally-gt0.false c.if-tally-eq0.false c.if-tally-eq0-2.false c.smallest-least.ensures.least) (no_tie _ _ c.else-last.either) (omega arith)).1
 
 pub write-requires-clause-room : goal.write-requires-clause-room
-write-requires-clause-room c = room_for (found (omega (arith, c.if-words-gt-MOST_WORDS.false)) c.judge-tally.ensures.tally c.if-tally-gt0.false c.if-tally-eq0.false c.if-tally-eq0-2.false c.smallest-least.ensures.least) c.if-count-chosen.false
+write-requires-clause-room c = room_for (found (omega arith) c.judge-tally.ensures.tally c.if-tally-gt0.false c.if-tally-eq0.false c.if-tally-eq0-2.false c.smallest-least.ensures.least) c.if-count-chosen.false
 
 pub mark-requires-2-clause-good : goal.mark-requires-2-clause-good
-mark-requires-2-clause-good c = (none-bad (omega (arith, c.if-words-gt-MOST_WORDS.false)) c.judge-tally.ensures.tally c.if-tally-gt0.false).good
+mark-requires-2-clause-good c = (none-bad (omega arith) c.judge-tally.ensures.tally c.if-tally-gt0.false).good
 
 pub returns-clause-answers : goal.returns-clause-answers
-returns-clause-answers c = (chosen _ _ _ (found (omega (arith, c.if-words-gt-MOST_WORDS.false)) c.judge-tally.ensures.tally c.if-tally-gt0.false c.if-tally-eq0.false c.if-tally-eq0-2.false c.smallest-least.ensures.least) (no_tie _ _ c.else-last.either) c.if-count-chosen.false c.mark-2.ensures.marked c.write.ensures.written).0
+returns-clause-answers c = (chosen _ _ _ (found (omega arith) c.judge-tally.ensures.tally c.if-tally-gt0.false c.if-tally-eq0.false c.if-tally-eq0-2.false c.smallest-least.ensures.least) (no_tie _ _ c.else-last.either) c.if-count-chosen.false c.mark-2.ensures.marked c.write.ensures.written).0
 
 pub returns-clause-last_pass : goal.returns-clause-last_pass
-returns-clause-last_pass c = (chosen _ _ _ (found (omega (arith, c.if-words-gt-MOST_WORDS.false)) c.judge-tally.ensures.tally c.if-tally-gt0.false c.if-tally-eq0.false c.if-tally-eq0-2.false c.smallest-least.ensures.least) (no_tie _ _ c.else-last.either) c.if-count-chosen.false c.mark-2.ensures.marked c.write.ensures.written).1
+returns-clause-last_pass c = (chosen _ _ _ (found (omega arith) c.judge-tally.ensures.tally c.if-tally-gt0.false c.if-tally-eq0.false c.if-tally-eq0-2.false c.smallest-least.ensures.least) (no_tie _ _ c.else-last.either) c.if-count-chosen.false c.mark-2.ensures.marked c.write.ensures.written).1

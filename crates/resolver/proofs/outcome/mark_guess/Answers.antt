@@ -6,8 +6,8 @@ use Rattle.resolver.proofs.outcome.mark_guess.Goals as goal
 
 pub returns-then-kind-ge-FAILED : goal.returns-then-kind-ge-FAILED
 unfolding marked_word
-returns-then-kind-ge-FAILED c = record { marked = rw (← c.kind.ensures.kind, le-leb 1 c.kind.result (omega (arith, c.if-kind-ge-FAILED.true))) }
+returns-then-kind-ge-FAILED c = record { marked = rw (← c.kind.ensures.kind, le-leb 1 c.kind.result (omega arith)) }
 
 pub returns : goal.returns
 unfolding marked_word
-returns c = record { marked = rw (← c.kind.ensures.kind, lt-leb 1 c.kind.result (omega (arith, c.if-kind-ge-FAILED.false))) }
+returns c = record { marked = rw (← c.kind.ensures.kind, lt-leb 1 c.kind.result (omega arith)) }
