@@ -1,6 +1,6 @@
 // A call: its parts are read one by one, each into an array of its own, and then it is made. A function here that returns
 // a bool says whether to go on: a part that its array has no room for stops the replay.
-ghost use Rattle.std.specs.Prelude.{◌≡◌, ◌≤◌, length, take};
+ghost use Rattle.std.specs.Prelude.{◌≡◌, ◌≤◌, length, min, take};
 
 use crate::input::{read_line, read_list, read_sheet};
 use crate::output::{tell, tell_selection};
@@ -79,6 +79,7 @@ fn matching<W: Write>(
 
 // So many words of an answer's buffer, or all that it has.
 fn room_of(buffer: &[u32], wanted: usize) -> usize
+    ensures value { result ≡ min wanted (length buffer.now) }
     ensures bound { result ≤ length buffer.now }
     ensures prefix { result ≡ length (take result buffer.now) }
 {

@@ -1,4 +1,5 @@
 // The parts of a call that only this program has, read from the input: lines, lists of outcome words, sheets.
+ghost use Rattle.std.specs.Prelude.{◌≡◌, length, min, IfOk};
 ghost use Rattle.std.specs.Io.{ReadsAtMost};
 
 use sample::{at_most, length, number};
@@ -19,7 +20,8 @@ fn number_8<R: Read>(input: &mut R) -> io::Result<u8> {
 
 // Reads so many bytes to a line's start, and gives for how many there was room.
 pub fn read_line<R: Read>(input: &mut R, line: &mut [u8], wanted: usize) -> io::Result<usize>
-    ensures { ReadsAtMost result line.new }
+    ensures value { IfOk result (λ n. n ≡ min wanted (length line.old)) }
+    ensures bound { ReadsAtMost result line.new }
 {
     let n = at_most(wanted, line.len());
     for byte in &mut line[..n] {
@@ -30,7 +32,8 @@ pub fn read_line<R: Read>(input: &mut R, line: &mut [u8], wanted: usize) -> io::
 
 // The same of outcome words.
 pub fn read_list<R: Read>(input: &mut R, list: &mut [u32], wanted: usize) -> io::Result<usize>
-    ensures { ReadsAtMost result list.new }
+    ensures value { IfOk result (λ n. n ≡ min wanted (length list.old)) }
+    ensures bound { ReadsAtMost result list.new }
 {
     let n = at_most(wanted, list.len());
     for word in &mut list[..n] {
@@ -51,7 +54,8 @@ fn read_entry<R: Read>(input: &mut R, sheet: &mut [u8]) -> io::Result<()> {
 
 // Reads the entries that are named, and gives for how many of so many bytes there is room.
 pub fn read_sheet<R: Read>(input: &mut R, sheet: &mut [u8], wanted: usize) -> io::Result<usize>
-    ensures { ReadsAtMost result sheet.new }
+    ensures value { IfOk result (λ n. n ≡ min wanted (length sheet.old)) }
+    ensures bound { ReadsAtMost result sheet.new }
 {
     let entries = number(input)?;
     for _ in 0..entries {

@@ -112,13 +112,15 @@ fn number_16<R: Read>(input: &mut R) -> io::Result<u16> {
 }
 
 pub fn at_most(a: usize, b: usize) -> usize
-    ensures { result ≤ b }
+    ensures value { result ≡ min a b }
+    ensures bound { result ≤ b }
 {
     if a <= b { a } else { b }
 }
 
 // So many words of a room, or all that it has.
 pub fn words_of(room: &[u16], wanted: usize) -> usize
+    ensures value { result ≡ min wanted (length room.now) }
     ensures bound { result ≤ length room.now }
     ensures prefix { result ≡ length (take result room.now) }
 {
@@ -127,7 +129,8 @@ pub fn words_of(room: &[u16], wanted: usize) -> usize
 
 // Reads so many words to a table's start, and gives for how many there was room.
 pub fn read_words<R: Read>(input: &mut R, table: &mut [u16], wanted: usize) -> io::Result<usize>
-    ensures { ReadsAtMost result table.new }
+    ensures value { IfOk result (λ n. n ≡ min wanted (length table.old)) }
+    ensures bound { ReadsAtMost result table.new }
 {
     let n = at_most(wanted, table.len());
     for word in &mut table[..n] {

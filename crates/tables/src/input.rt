@@ -1,5 +1,5 @@
 // The parts of a case that only this program has, read from the input: words, and texts with escapes.
-ghost use Rattle.std.specs.Prelude.{◌≡◌, ◌≤◌, length, take};
+ghost use Rattle.std.specs.Prelude.{◌≡◌, ◌≤◌, length, min, take};
 ghost use Rattle.std.specs.Io.{ReadsAtMost};
 
 use sample::{END, TURNS, at_most, byte};
@@ -29,6 +29,7 @@ pub fn word<R: Read>(input: &mut R) -> io::Result<u8> {
 
 // So many bytes of a room, or all that it has.
 pub fn bytes_of(room: &[u8], wanted: usize) -> usize
+    ensures value { result ≡ min wanted (length room.now) }
     ensures bound { result ≤ length room.now }
     ensures prefix { result ≡ length (take result room.now) }
 {
