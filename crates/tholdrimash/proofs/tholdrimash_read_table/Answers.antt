@@ -1,0 +1,7 @@
+-- `tholdrimash_read_table` meets its contract: reading's answer, as the C struct's fields.
+use borrow.Author.Rules.{rules}
+use Rattle.tholdrimash.proofs.Said.{call-of}
+use Rattle.tholdrimash.proofs.tholdrimash_read_table.Goals as goal
+
+pub returns : goal.returns
+returns c = record { answers = call-of _ _ (c.read_fields.ensures _) c.read_table.ensures.answers }
