@@ -1,6 +1,5 @@
 -- `tholdrimash_fill_sheet` meets its contract: filling's answer, as the C struct's fields.
-use borrow.Author.Rules.{rules}
-use Rattle.tholdrimash.proofs.Said.{fills_of, fits-of}
+use Rattle.tholdrimash.proofs.Said.{fills_of}
 use Rattle.tholdrimash.proofs.tholdrimash_fill_sheet.Goals as goal
 
 pub returns-clause-answers : goal.returns-clause-answers

@@ -1,5 +1,4 @@
 -- `tholdrimash_read_table` meets its contract: reading's answer, as the C struct's fields.
-use borrow.Author.Rules.{rules}
 use Rattle.tholdrimash.proofs.Said.{call-of}
 use Rattle.tholdrimash.proofs.tholdrimash_read_table.Goals as goal
 

@@ -1,9 +1,4 @@
-use Rattle.tholdrimash.proofs.Few.{said-few, chose-is}
-use borrow.Author.Rules.{rules}
-use Rattle.tholdrimash.proofs.tholdrimash_select.Reads as reads
-use Rattle.tholdrimash.proofs.tholdrimash_select.Lts as lts
-use Rattle.resolver.proofs.instruction.resolve_encoding.Reads as resolve-encoding-reads
-use Rattle.tholdrimash.proofs.chosen_fields.Reads as chosen-fields-reads
+use Rattle.tholdrimash.proofs.Few.{said-few}
 use Rattle.tholdrimash.proofs.tholdrimash_select.Goals as goal
 
 pub chosen_fields-requires : goal.chosen_fields-requires
