@@ -7,16 +7,16 @@ use Rattle.leads.proofs.Laying.{between_more, span_key}
 use Rattle.leads.proofs.lead_between.Goals as goal
 
 pub overflow_cast-rule : goal.overflow_cast-rule
-overflow_cast-rule c = omega (arith, c.loop-rule-test.true, c.requires.to_bound, few-records _ [] [] c.requires.table_value)
+overflow_cast-rule c = omega (arith, c.requires.to_bound, few-records _ [] [] c.requires.table_value)
 
 pub prefix_key-requires : goal.prefix_key-requires
 prefix_key-requires c = parts_within _ _ _ c.parts_of-parts.ensures.answers
 
 pub offset_bounds-leads-here : goal.offset_bounds-leads-here
-offset_bounds-leads-here c = omega (arith, c.loop-rule-test.true, c.requires.to_bound, few-records _ [] [] c.requires.table_value)
+offset_bounds-leads-here c = omega (arith, c.requires.to_bound, few-records _ [] [] c.requires.table_value)
 
 pub bounds-leads-here : goal.bounds-leads-here
-bounds-leads-here c = omega (arith, c.loop-rule-test.true, c.requires.to_bound, few-records _ [] [] c.requires.table_value, c.requires.leads_len, c.loop-rule.invariant.1.0)
+bounds-leads-here c = omega (arith, c.requires.to_bound, few-records _ [] [] c.requires.table_value, c.requires.leads_len)
 
 pub loop-rule-preserved : goal.loop-rule-preserved
-loop-rule-preserved c = (between_more c.loop-rule.invariant.0 c.loop-rule.invariant.1.1.0 (omega (arith, c.loop-rule-test.true, c.requires.to_bound, few-records _ [] [] c.requires.table_value, c.requires.leads_len, c.loop-rule.invariant.1.0)) (span_key _ _ _ c.parts_of-parts.ensures.answers c.prefix_key.ensures.answers), (simp length-set c.loop-rule.invariant.1.0, (omega (arith, c.loop-rule.invariant.1.1.0), omega (arith, c.loop-rule-test.true))))
+loop-rule-preserved c = (between_more c.loop-rule.invariant.0 c.loop-rule.invariant.1.1.0 (omega (arith, c.requires.to_bound, few-records _ [] [] c.requires.table_value, c.requires.leads_len)) (span_key _ _ _ c.parts_of-parts.ensures.answers c.prefix_key.ensures.answers), (simp length-set c.loop-rule.invariant.1.0, (omega arith, omega arith)))

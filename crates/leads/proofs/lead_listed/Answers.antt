@@ -16,7 +16,7 @@ pub prefix_key-requires : goal.prefix_key-requires
 prefix_key-requires c = part_end _ (c.requires.placed.each c.loop-i.i c.loop-i-test.true) refl refl
 
 pub bounds-leads-rule : goal.bounds-leads-rule
-bounds-leads-rule c = omega (arith, c.requires.below c.loop-i.i c.loop-i-test.true, few-records _ [] [] c.requires.table, c.requires.room, c.loop-i.invariant.1.0)
+bounds-leads-rule c = omega (arith, c.requires.below c.loop-i.i c.loop-i-test.true, few-records _ [] [] c.requires.table, c.requires.room)
 
 pub loop-i-preserved : goal.loop-i-preserved
-loop-i-preserved c = (among-more c.args.rules.now c.loop-i.invariant.0 (omega (arith, c.requires.below c.loop-i.i c.loop-i-test.true, few-records _ [] [] c.requires.table, c.requires.room, c.loop-i.invariant.1.0)) (placed-key _ (c.requires.placed.each c.loop-i.i c.loop-i-test.true) refl refl c.prefix_key.ensures.answers), (simp length-set c.loop-i.invariant.1.0, omega (arith, c.loop-i-test.true)))
+loop-i-preserved c = (among-more c.args.rules.now c.loop-i.invariant.0 (omega (arith, c.requires.below c.loop-i.i c.loop-i-test.true, few-records _ [] [] c.requires.table, c.requires.room)) (placed-key _ (c.requires.placed.each c.loop-i.i c.loop-i-test.true) refl refl c.prefix_key.ensures.answers), (simp length-set c.loop-i.invariant.1.0, omega arith))

@@ -9,25 +9,25 @@ pub loop-size-init : goal.loop-size-init
 loop-size-init c = seeking-done c.requires (seeking-none c.requires) c.put_run-run.auto.rules c.put_run-run.ensures
 
 pub bounds-prefix-size : goal.bounds-prefix-size
-bounds-prefix-size c = next_place c.requires c.loop-size.invariant c.parse_prefix-prefix.ensures.answers (omega (arith, c.loop-size-test.true))
+bounds-prefix-size c = next_place c.requires c.loop-size.invariant c.parse_prefix-prefix.ensures.answers (omega arith)
 
 pub overflow_mul-key : goal.overflow_mul-key
-overflow_mul-key c = omega (arith, seeking-small c.requires (sought-next c.requires c.loop-size.invariant c.parse_prefix-prefix.ensures.answers (omega (arith, c.loop-size-test.true))))
+overflow_mul-key c = omega (arith, seeking-small c.requires (sought-next c.requires c.loop-size.invariant c.parse_prefix-prefix.ensures.answers (omega arith)))
 
 pub overflow_add-key : goal.overflow_add-key
-overflow_add-key c = omega (arith, seeking-small c.requires (sought-next c.requires c.loop-size.invariant c.parse_prefix-prefix.ensures.answers (omega (arith, c.loop-size-test.true))))
+overflow_add-key c = omega (arith, seeking-small c.requires (sought-next c.requires c.loop-size.invariant c.parse_prefix-prefix.ensures.answers (omega arith)))
 
 pub put_run-run-requires-in-loop-size-clause-run_asked : goal.put_run-run-requires-in-loop-size-clause-run_asked
-put_run-run-requires-in-loop-size-clause-run_asked c = seeking-asked c.requires (sought-next c.requires c.loop-size.invariant c.parse_prefix-prefix.ensures.answers (omega (arith, c.loop-size-test.true)))
+put_run-run-requires-in-loop-size-clause-run_asked c = seeking-asked c.requires (sought-next c.requires c.loop-size.invariant c.parse_prefix-prefix.ensures.answers (omega arith))
 
 pub loop-size-smaller : goal.loop-size-smaller
-loop-size-smaller c = omega (arith, next_place c.requires c.loop-size.invariant c.parse_prefix-prefix.ensures.answers (omega (arith, c.loop-size-test.true)))
+loop-size-smaller c = omega (arith, next_place c.requires c.loop-size.invariant c.parse_prefix-prefix.ensures.answers (omega arith))
 
 pub loop-size-preserved : goal.loop-size-preserved
-loop-size-preserved c = seeking-done c.requires (sought-next c.requires c.loop-size.invariant c.parse_prefix-prefix.ensures.answers (omega (arith, c.loop-size-test.true))) c.put_run-run-in-loop-size.auto.rules c.put_run-run-in-loop-size.ensures
+loop-size-preserved c = seeking-done c.requires (sought-next c.requires c.loop-size.invariant c.parse_prefix-prefix.ensures.answers (omega arith)) c.put_run-run-in-loop-size.auto.rules c.put_run-run-in-loop-size.ensures
 
 pub returns-clause-answers : goal.returns-clause-answers
-returns-clause-answers c = let whole = sought-all c.requires c.loop-size.invariant c.parse_prefix-prefix.ensures.answers (omega (arith, c.loop-size-test.false)) in whole.0
+returns-clause-answers c = let whole = sought-all c.requires c.loop-size.invariant c.parse_prefix-prefix.ensures.answers (omega arith) in whole.0
 
 pub returns-clause-many : goal.returns-clause-many
-returns-clause-many c = let whole = sought-all c.requires c.loop-size.invariant c.parse_prefix-prefix.ensures.answers (omega (arith, c.loop-size-test.false)) in whole.1.0
+returns-clause-many c = let whole = sought-all c.requires c.loop-size.invariant c.parse_prefix-prefix.ensures.answers (omega arith) in whole.1.0

@@ -9,4 +9,4 @@ pub prefix_key-requires : goal.prefix_key-requires
 prefix_key-requires c = part_end _ (c.requires.placed.each c.loop-i.i c.loop-i-test.true) refl refl
 
 pub loop-i-preserved : goal.loop-i-preserved
-loop-i-preserved c = (laying-turn _ c.loop-i.invariant.0 (omega (arith, c.requires.fits)) (omega (arith, c.requires.room, c.loop-i.invariant.1.0)) (entry-is _ _ (placed-key _ (c.requires.placed.each c.loop-i.i c.loop-i-test.true) refl refl c.prefix_key.ensures.answers)), (simp length-set c.loop-i.invariant.1.0, omega arith))
+loop-i-preserved c = (laying-turn _ c.loop-i.invariant.0 (omega (arith, c.requires.fits)) (omega (arith, c.requires.room)) (entry-is _ _ (placed-key _ (c.requires.placed.each c.loop-i.i c.loop-i-test.true) refl refl c.prefix_key.ensures.answers)), (simp length-set c.loop-i.invariant.1.0, omega arith))

@@ -18,10 +18,10 @@ pub returns-then-budget-eq0 : goal.returns-then-budget-eq0
 returns-then-budget-eq0 c = record { answers = budget-none _ _ _ _ (line-good _ _ c.check_line-found.ensures.answers c.in-Good.is) (passed c.check_sheet.ensures.answers c.if-not-check_sheet.false-raw) c.if-budget-eq0.true }
 
 pub returns-then-budget-gt-MOST_VISITS : goal.returns-then-budget-gt-MOST_VISITS
-returns-then-budget-gt-MOST_VISITS c = record { answers = budget-great _ _ _ _ (line-good _ _ c.check_line-found.ensures.answers c.in-Good.is) (passed c.check_sheet.ensures.answers c.if-not-check_sheet.false-raw) (omega (arith, c.if-budget-gt-MOST_VISITS.true)) }
+returns-then-budget-gt-MOST_VISITS c = record { answers = budget-great _ _ _ _ (line-good _ _ c.check_line-found.ensures.answers c.in-Good.is) (passed c.check_sheet.ensures.answers c.if-not-check_sheet.false-raw) (omega arith) }
 
 pub returns-then-base-gt-MOST_BASE : goal.returns-then-base-gt-MOST_BASE
-returns-then-base-gt-MOST_BASE c = record { answers = base-great _ _ _ _ (line-good _ _ c.check_line-found.ensures.answers c.in-Good.is) (passed c.check_sheet.ensures.answers c.if-not-check_sheet.false-raw) c.if-budget-eq0.false (omega (arith, c.if-budget-gt-MOST_VISITS.false)) (omega (arith, c.if-base-gt-MOST_BASE.true)) }
+returns-then-base-gt-MOST_BASE c = record { answers = base-great _ _ _ _ (line-good _ _ c.check_line-found.ensures.answers c.in-Good.is) (passed c.check_sheet.ensures.answers c.if-not-check_sheet.false-raw) c.if-budget-eq0.false (omega arith) (omega arith) }
 
 pub returns : goal.returns
-returns c = record { answers = all-good _ _ _ _ (line-good _ _ c.check_line-found.ensures.answers c.in-Good.is) (passed c.check_sheet.ensures.answers c.if-not-check_sheet.false-raw) c.if-budget-eq0.false (omega (arith, c.if-budget-gt-MOST_VISITS.false)) (omega (arith, c.if-base-gt-MOST_BASE.false)) }
+returns c = record { answers = all-good _ _ _ _ (line-good _ _ c.check_line-found.ensures.answers c.in-Good.is) (passed c.check_sheet.ensures.answers c.if-not-check_sheet.false-raw) c.if-budget-eq0.false (omega arith) (omega arith) }

@@ -34,7 +34,7 @@ pub match_with_rule-got-requires-clause-stands : goal.match_with_rule-got-requir
 match_with_rule-got-requires-clause-stands c = try-stands c.requires.try_asked _ c.loop-i.invariant c.loop-i-test.true _ refl _ c.new-walker.ensures.answers.0 c.new-walker.ensures.answers.1 _ refl
 
 pub loop-i-preserved : goal.loop-i-preserved
-loop-i-preserved c = tries-again c.requires.try_asked _ c.loop-i.invariant c.loop-i-test.true _ refl _ c.new-walker.ensures.answers.0 c.new-walker.ensures.answers.1 refl c.match_with_rule-got.ensures c.in-Done.is (omega (arith, c.match_with_rule-got.auto, c.loop-i.invariant.stored.sized))
+loop-i-preserved c = tries-again c.requires.try_asked _ c.loop-i.invariant c.loop-i-test.true _ refl _ c.new-walker.ensures.answers.0 c.new-walker.ensures.answers.1 refl c.match_with_rule-got.ensures c.in-Done.is (omega (arith, c.match_with_rule-got.auto))
 
 pub returns-in-Stopped : goal.returns-in-Stopped
 returns-in-Stopped c = tries-stop c.requires.try_asked _ c.loop-i.invariant c.loop-i-test.true _ refl _ c.new-walker.ensures.answers.0 c.new-walker.ensures.answers.1 refl c.match_with_rule-got.ensures c.in-Stopped.is c.new-has.ensures.answers

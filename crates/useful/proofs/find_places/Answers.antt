@@ -7,10 +7,10 @@ pub loop-at-init : goal.loop-at-init
 loop-at-init c = filled-end _ c.requires.good_line.short _ c.requires.held_places
 
 pub loop-at-preserved-then-is_whitespace : goal.loop-at-preserved-then-is_whitespace
-loop-at-preserved-then-is_whitespace c = filled-white _ c.requires.good_line.short _ _ c.loop-at.invariant (omega (arith, c.loop-at-test.true)) (sym c.is_whitespace.ensures.answers ∙ c.if-is_whitespace.true)
+loop-at-preserved-then-is_whitespace c = filled-white _ c.requires.good_line.short _ _ c.loop-at.invariant (omega arith) (sym c.is_whitespace.ensures.answers ∙ c.if-is_whitespace.true)
 
 pub loop-at-preserved : goal.loop-at-preserved
-loop-at-preserved c = filled-solid _ c.requires.good_line.short _ _ c.loop-at.invariant (omega (arith, c.loop-at-test.true)) (sym c.is_whitespace.ensures.answers ∙ c.if-is_whitespace.false)
+loop-at-preserved c = filled-solid _ c.requires.good_line.short _ _ c.loop-at.invariant (omega arith) (sym c.is_whitespace.ensures.answers ∙ c.if-is_whitespace.false)
 
 pub returns : goal.returns
-returns c = record { answers = filled-all _ c.requires.good_line.short _ _ c.loop-at.invariant (omega (arith, c.loop-at-test.false)) }
+returns c = record { answers = filled-all _ c.requires.good_line.short _ _ c.loop-at.invariant (omega arith) }

@@ -8,10 +8,10 @@ use Rattle.useful.proofs.Limits.{later-white, own-solid}
 use Rattle.useful.proofs.maybe_expect_whitespace.Goals as goal
 
 pub returns-then-limit-here : goal.returns-then-limit-here
-returns-then-limit-here c = record { answers = gap-end _ _ _ (sym (held_same _ _ (c.requires.cursor_le_limit, c.requires.limit_in_bounds))) (omega (arith, c.if-limit-here.true)) }
+returns-then-limit-here c = record { answers = gap-end _ _ _ (sym (held_same _ _ (c.requires.cursor_le_limit, c.requires.limit_in_bounds))) (omega arith) }
 
 pub returns-then-here-place : goal.returns-then-here-place
-returns-then-here-place c = record { answers = gap-byte _ _ _ (sym (held_same _ _ (c.requires.cursor_le_limit, c.requires.limit_in_bounds))) true c.if-limit-here.false (later-white _ _ c.requires.lent _ (omega (arith, c.if-limit-here.false, c.requires.limit_in_bounds)) c.if-here-place.true) }
+returns-then-here-place c = record { answers = gap-byte _ _ _ (sym (held_same _ _ (c.requires.cursor_le_limit, c.requires.limit_in_bounds))) true c.if-limit-here.false (later-white _ _ c.requires.lent _ (omega (arith, c.requires.limit_in_bounds)) c.if-here-place.true) }
 
 pub returns : goal.returns
-returns c = record { answers = gap-byte _ _ _ (sym (held_same _ _ (c.requires.cursor_le_limit, c.requires.limit_in_bounds))) false c.if-limit-here.false (own-solid _ _ c.requires.lent _ (omega (arith, c.if-limit-here.false, c.requires.limit_in_bounds)) c.if-here-place.false) }
+returns c = record { answers = gap-byte _ _ _ (sym (held_same _ _ (c.requires.cursor_le_limit, c.requires.limit_in_bounds))) false c.if-limit-here.false (own-solid _ _ c.requires.lent _ (omega (arith, c.requires.limit_in_bounds)) c.if-here-place.false) }

@@ -12,11 +12,11 @@ match_with_expr-loop-i-init t c =
 
 pub match_with_expr-offset_bounds-ends-i : goal.match_with_expr-offset_bounds-ends-i
 match_with_expr-offset_bounds-ends-i t c =
-    omega (arith, ends-three c.requires.ready c.args.visits _ c.next_useful_index-begins.ensures.answers _ c.find_ends-ends.ensures.answers, c.loop-i-test.true)
+    omega (arith, ends-three c.requires.ready c.args.visits _ c.next_useful_index-begins.ensures.answers _ c.find_ends-ends.ensures.answers)
 
 pub match_with_expr-bounds-ends-i : goal.match_with_expr-bounds-ends-i
 match_with_expr-bounds-ends-i t c =
-    omega (arith, ends-three c.requires.ready c.args.visits _ c.next_useful_index-begins.ensures.answers _ c.find_ends-ends.ensures.answers, c.loop-i-test.true)
+    omega (arith, ends-three c.requires.ready c.args.visits _ c.next_useful_index-begins.ensures.answers _ c.find_ends-ends.ensures.answers)
 
 pub match_with_expr-keep-room-requires-clause-argument_fits : goal.match_with_expr-keep-room-requires-clause-argument_fits
 match_with_expr-keep-room-requires-clause-argument_fits t c = expr-fits c.requires.ready _ _ c.next_useful_index-begins.ensures.answers _ c.find_ends-ends.ensures.answers c.loop-i.invariant c.loop-i-test.true _ refl c.least-start.ensures.answers (omega (arith, c.requires.stands.small))
@@ -27,10 +27,10 @@ match_with_expr-returns-in-Full t c =
 
 pub match_with_expr-match_with_rule-got-requires : goal.match_with_expr-match_with_rule-got-requires
 match_with_expr-match_with_rule-got-requires t c = (
-  omega (arith, c.loop-i.invariant.falls, c.decreases),
+  omega (arith, c.decreases),
   (
     expr-ready c.requires.ready _ _ c.next_useful_index-begins.ensures.answers _ c.find_ends-ends.ensures.answers c.loop-i.invariant c.loop-i-test.true _ refl _ c.least-start.ensures.answers _ _ (rw c.in-Taken.is at c.keep-room.ensures.answers.log) c.after-next.ensures
-        (omega (arith, c.keep-room.auto, c.loop-i.invariant.stored.sized))
+        (omega (arith, c.keep-room.auto))
         (expr-counted c.requires.ready _ _ c.next_useful_index-begins.ensures.answers _ c.find_ends-ends.ensures.answers c.loop-i.invariant c.loop-i-test.true _ refl _ c.least-start.ensures.answers _ _ (rw c.in-Taken.is at c.keep-room.ensures.answers.log) c.requires.stands) c.set_cursor_index-moved.ensures.answers,
     (
       expr-stands c.requires.ready _ _ c.next_useful_index-begins.ensures.answers _ c.find_ends-ends.ensures.answers c.loop-i.invariant c.loop-i-test.true _ refl _ c.least-start.ensures.answers _ _ (rw c.in-Taken.is at c.keep-room.ensures.answers.log) c.requires.stands c.after-next.ensures c.set_cursor_index-moved.ensures.answers,
@@ -42,7 +42,7 @@ match_with_expr-match_with_rule-got-requires t c = (
 pub match_with_expr-loop-i-preserved : goal.match_with_expr-loop-i-preserved
 match_with_expr-loop-i-preserved t c =
     expr-again c.requires.ready _ _ c.next_useful_index-begins.ensures.answers _ c.find_ends-ends.ensures.answers c.loop-i.invariant c.loop-i-test.true _ refl _ c.least-start.ensures.answers _ _ (rw c.in-Taken.is at c.keep-room.ensures.answers.log) c.after-next.ensures c.set_cursor_index-moved.ensures.answers c.match_with_rule-got.ensures c.in-Done.is
-    (omega (arith, c.match_with_rule-got.auto, c.keep-room.auto, c.loop-i.invariant.stored.sized))
+    (omega (arith, c.match_with_rule-got.auto, c.keep-room.auto))
 
 pub match_with_expr-returns-in-Stopped : goal.match_with_expr-returns-in-Stopped
 match_with_expr-returns-in-Stopped t c =
@@ -74,11 +74,11 @@ match_with_nested_ruledef-loop-pass-init t c =
 
 pub match_with_nested_ruledef-offset_bounds-limits-pass : goal.match_with_nested_ruledef-offset_bounds-limits-pass
 match_with_nested_ruledef-offset_bounds-limits-pass t c =
-    omega (arith, limits-two c.requires.ready _ c.requires.set_bound c.if-depth-ge-DEPTH.false _ _ refl refl _ c.find_limits-limits.ensures.answers, c.loop-pass-test.true)
+    omega (arith, limits-two c.requires.ready _ c.requires.set_bound c.if-depth-ge-DEPTH.false _ _ refl refl _ c.find_limits-limits.ensures.answers)
 
 pub match_with_nested_ruledef-bounds-limits-pass : goal.match_with_nested_ruledef-bounds-limits-pass
 match_with_nested_ruledef-bounds-limits-pass t c =
-    omega (arith, limits-two c.requires.ready _ c.requires.set_bound c.if-depth-ge-DEPTH.false _ _ refl refl _ c.find_limits-limits.ensures.answers, c.loop-pass-test.true)
+    omega (arith, limits-two c.requires.ready _ c.requires.set_bound c.if-depth-ge-DEPTH.false _ _ refl refl _ c.find_limits-limits.ensures.answers)
 
 pub match_with_nested_ruledef-look_ahead-ahead-requires-clause-cursor_le_limit : goal.match_with_nested_ruledef-look_ahead-ahead-requires-clause-cursor_le_limit
 match_with_nested_ruledef-look_ahead-ahead-requires-clause-cursor_le_limit t c = let (a, b) = inner-within c.requires.ready _ c.requires.set_bound c.if-depth-ge-DEPTH.false _ _ refl refl _ c.find_limits-limits.ensures.answers _ c.loop-pass-test.true _ refl _ c.set_cursor_limit-inner.ensures.answers in omega (arith, a, c.requires.ready.cursor)
@@ -113,7 +113,7 @@ match_with_nested_ruledef-loop-rule-preserved-then-fails-gt0 t c =
 pub match_with_nested_ruledef-match_with_rule-got-requires : goal.match_with_nested_ruledef-match_with_rule-got-requires
 match_with_nested_ruledef-match_with_rule-got-requires t c =
     let (a, b) = inner-within c.requires.ready _ c.requires.set_bound c.if-depth-ge-DEPTH.false _ _ refl refl _ c.find_limits-limits.ensures.answers _ c.loop-pass-test.true _ refl _ c.set_cursor_limit-inner.ensures.answers in (
-      omega (arith, c.loop-rule.invariant.falls, c.loop-pass.invariant.falls, c.decreases),
+      omega (arith, c.decreases),
       (
         rule-ready c.requires.ready _ c.requires.set_bound c.if-depth-ge-DEPTH.false _ _ refl refl _ c.loop-rule-test.true _ c.parts_of-parts.ensures.answers _ a b _ _ c.loop-rule.invariant.stored c.loop-rule.invariant.counted,
         (rule-stands c.requires.ready _ c.requires.set_bound c.if-depth-ge-DEPTH.false _ _ refl refl _ c.loop-rule-test.true _ c.parts_of-parts.ensures.answers _ a b _ _ refl, c.requires.prepared),
@@ -124,7 +124,7 @@ pub match_with_nested_ruledef-loop-rule-preserved : goal.match_with_nested_ruled
 match_with_nested_ruledef-loop-rule-preserved t c =
     let (a, b) = inner-within c.requires.ready _ c.requires.set_bound c.if-depth-ge-DEPTH.false _ _ refl refl _ c.find_limits-limits.ensures.answers _ c.loop-pass-test.true _ refl _ c.set_cursor_limit-inner.ensures.answers in
     rules-again c.requires.ready _ c.requires.set_bound c.if-depth-ge-DEPTH.false _ _ refl refl _ c.loop-rule-test.true _ c.parts_of-parts.ensures.answers _ a b c.loop-rule.invariant refl c.match_with_rule-got.ensures c.in-Done.is
-    (omega (arith, c.match_with_rule-got.auto, c.loop-rule.invariant.stored.sized))
+    (omega (arith, c.match_with_rule-got.auto))
 
 pub match_with_nested_ruledef-returns-in-Stopped : goal.match_with_nested_ruledef-returns-in-Stopped
 match_with_nested_ruledef-returns-in-Stopped t c =
@@ -139,7 +139,7 @@ match_with_nested_ruledef-loop-m-init t c =
     (nested-grown c.requires.ready _ _ c.requires.set_bound c.if-depth-ge-DEPTH.false _ _ refl refl _ c.next_useful_index-begins.ensures.answers _ c.find_limits-limits.ensures.answers c.loop-pass.invariant c.loop-pass-test.false)
 
 pub match_with_nested_ruledef-inner_match-found-requires-clause-m_lt_used : goal.match_with_nested_ruledef-inner_match-found-requires-clause-m_lt_used
-match_with_nested_ruledef-inner_match-found-requires-clause-m_lt_used t c = omega (arith, c.loop-m-test.true, nest-used c.requires.ready c.if-depth-ge-DEPTH.false _ c.loop-m.invariant c.loop-m-test.true)
+match_with_nested_ruledef-inner_match-found-requires-clause-m_lt_used t c = omega (arith, nest-used c.requires.ready c.if-depth-ge-DEPTH.false _ c.loop-m.invariant c.loop-m-test.true)
 
 pub match_with_nested_ruledef-loop-m-preserved-in-Nothing : goal.match_with_nested_ruledef-loop-m-preserved-in-Nothing
 match_with_nested_ruledef-loop-m-preserved-in-Nothing t c =
@@ -170,9 +170,9 @@ match_with_nested_ruledef-match_with_rule-got-requires-in-Taken t c =
     let (within, _, of) = nested-within c.requires.ready _ _ c.requires.set_bound c.if-depth-ge-DEPTH.false _ _ refl refl _ c.next_useful_index-begins.ensures.answers _ c.find_limits-limits.ensures.answers c.loop-pass.invariant c.loop-pass-test.false
     (nest-member c.requires.ready c.if-depth-ge-DEPTH.false _ c.loop-m.invariant c.loop-m-test.true _ c.inner_match-found.ensures _ _ c.in-Ends.is) in
     let (since, grown) = nested-since c.requires.ready _ _ c.requires.set_bound c.if-depth-ge-DEPTH.false _ _ refl refl _ c.next_useful_index-begins.ensures.answers _ c.find_limits-limits.ensures.answers c.loop-pass.invariant c.loop-pass-test.false in (
-      omega (arith, c.loop-m.invariant.did.falls, c.loop-pass.invariant.falls, c.decreases),
+      omega (arith, c.decreases),
       (
-        nest-ready c.requires.ready c.if-depth-ge-DEPTH.false _ c.loop-m.invariant c.loop-m-test.true _ c.inner_match-found.ensures _ _ c.in-Ends.is _ c.least-start.ensures.answers _ _ (rw c.in-Taken.is at c.keep-room.ensures.answers.log) c.after-next.ensures within (omega (arith, c.keep-room.auto, c.loop-m.invariant.did.stored.sized))
+        nest-ready c.requires.ready c.if-depth-ge-DEPTH.false _ c.loop-m.invariant c.loop-m-test.true _ c.inner_match-found.ensures _ _ c.in-Ends.is _ c.least-start.ensures.answers _ _ (rw c.in-Taken.is at c.keep-room.ensures.answers.log) c.after-next.ensures within (omega (arith, c.keep-room.auto))
             (nest-counted c.requires.ready c.if-depth-ge-DEPTH.false _ c.loop-m.invariant c.loop-m-test.true _ c.inner_match-found.ensures _ _ c.in-Ends.is _ c.least-start.ensures.answers _ _ (rw c.in-Taken.is at c.keep-room.ensures.answers.log) c.requires.stands refl of since grown) c.set_cursor_index-moved.ensures.answers,
         (nest-stands c.requires.ready c.if-depth-ge-DEPTH.false _ c.loop-m.invariant c.loop-m-test.true _ c.inner_match-found.ensures _ _ c.in-Ends.is _ c.least-start.ensures.answers _ _ (rw c.in-Taken.is at c.keep-room.ensures.answers.log) c.requires.stands refl of since grown c.after-next.ensures within (omega (arith, few)) c.set_cursor_index-moved.ensures.answers, c.requires.prepared),
       ),
@@ -184,7 +184,7 @@ match_with_nested_ruledef-loop-m-preserved t c =
     (nested-within c.requires.ready _ _ c.requires.set_bound c.if-depth-ge-DEPTH.false _ _ refl refl _ c.next_useful_index-begins.ensures.answers _ c.find_limits-limits.ensures.answers c.loop-pass.invariant c.loop-pass-test.false
     (nest-member c.requires.ready c.if-depth-ge-DEPTH.false _ c.loop-m.invariant c.loop-m-test.true _ c.inner_match-found.ensures _ _ c.in-Ends.is)).0
     c.set_cursor_index-moved.ensures.answers c.match_with_rule-got-in-Taken.ensures c.in-Done-got.is
-    (omega (arith, c.match_with_rule-got-in-Taken.auto, c.keep-room.auto, c.loop-m.invariant.did.stored.sized))
+    (omega (arith, c.match_with_rule-got-in-Taken.auto, c.keep-room.auto))
 
 pub match_with_nested_ruledef-returns-in-Stopped-got : goal.match_with_nested_ruledef-returns-in-Stopped-got
 match_with_nested_ruledef-returns-in-Stopped-got t c =
@@ -227,7 +227,7 @@ match_with_rule-returns-in-Stayed-step t c =
 
 pub match_with_rule-match_with_expr-requires : goal.match_with_rule-match_with_expr-requires
 match_with_rule-match_with_expr-requires t c =
-    (omega (arith, c.loop-left.invariant.falls, c.if-left-eq0.false, c.decreases), (step-ready c.requires.ready _ c.loop-left.invariant c.if-left-eq0.false c.if-at-end.false _ c.part_within-part.ensures.answers c.past-rest.ensures, (step-stands c.requires.ready _ c.loop-left.invariant c.if-left-eq0.false c.if-at-end.false _ c.part_within-part.ensures.answers c.in-Expression.is c.past-rest.ensures, c.requires.prepared)))
+    (omega (arith, c.decreases), (step-ready c.requires.ready _ c.loop-left.invariant c.if-left-eq0.false c.if-at-end.false _ c.part_within-part.ensures.answers c.past-rest.ensures, (step-stands c.requires.ready _ c.loop-left.invariant c.if-left-eq0.false c.if-at-end.false _ c.part_within-part.ensures.answers c.in-Expression.is c.past-rest.ensures, c.requires.prepared)))
 
 pub match_with_rule-returns-in-Expression : goal.match_with_rule-returns-in-Expression
 match_with_rule-returns-in-Expression t c =
@@ -235,7 +235,7 @@ match_with_rule-returns-in-Expression t c =
 
 pub match_with_rule-match_with_nested_ruledef-requires : goal.match_with_rule-match_with_nested_ruledef-requires
 match_with_rule-match_with_nested_ruledef-requires t c = (
-  omega (arith, c.loop-left.invariant.falls, c.if-left-eq0.false, c.decreases),
+  omega (arith, c.decreases),
   (step-ready c.requires.ready _ c.loop-left.invariant c.if-left-eq0.false c.if-at-end.false _ c.part_within-part.ensures.answers c.past-rest-in-Nested.ensures, (step-stands c.requires.ready _ c.loop-left.invariant c.if-left-eq0.false c.if-at-end.false _ c.part_within-part.ensures.answers c.in-Nested.is c.past-rest-in-Nested.ensures, (ruleset-few c.requires.ready c.args.visits c.loop-left.invariant c.if-left-eq0.false c.if-at-end.false _ c.part_within-part.ensures.answers c.in-Nested.is, c.requires.prepared))),
 )
 
