@@ -1,5 +1,8 @@
 // The file that the program's argument names, read whole. It refuses a file that cannot be read, with the system's words on
 // standard error, and one that is longer than a table's listing can be.
+ghost use Rattle.std.specs.Prelude.{IfSome, IfOk};
+ghost use Rattle.glyphs.specs.File.{Holds};
+
 use crate::TABLE;
 use crate::show::{complain, fail};
 use crate::table::MOST_BYTES;
@@ -65,15 +68,16 @@ pub fn read_named<S: Env + Files, W: Write>(
 }
 
 fn read_at<S: Files, W: Write>(rt: &S, alloc: Global, err: &mut W, path: &str) -> io::Result<File> {
-    match read_bytes(rt, alloc, path) {
-        Ok(bytes) => Ok(bytes),
+    match fs::open(rt, path).and_then(|file| read_open(alloc, file)) {
+        Ok(found) => Ok(found),
         Err(error) => unread(alloc, err, path.as_bytes(), &error),
     }
 }
 
 // One byte more than a listing has tells that a file is longer.
-fn read_bytes<S: Files>(rt: &S, alloc: Global, path: &str) -> io::Result<File> {
-    let file = fs::open(rt, path)?;
+fn read_open<F: Read + Drop>(alloc: Global, file: F) -> io::Result<File>
+    ensures { IfOk result (λ found. IfSome (F.remaining file) (λ xs. Holds found xs)) }
+{
     let mut bytes = Vec::new(alloc);
     file.take(MOST_BYTES as u64 + 1).read_to_end(&mut bytes)?;
     if bytes.len() <= MOST_BYTES {
