@@ -20,7 +20,7 @@ use Rattle.fields.specs.Said.{Found}
 use Rattle.fields.specs.Laid.{Laid}
 use Rattle.fields.proofs.Scans.{slice-size}
 use Rattle.fields.proofs.reading.find.Reads as find
-use Rattle.fields.proofs.reading.is_word.Reads as is_IsWord
+use Rattle.fields.proofs.reading.is_word.Reads as is_word
 use Rattle.fields.proofs.reading.number.Reads as number
 use Rattle.fields.proofs.reading.part_word.Reads as part-word
 use Rattle.fields.proofs.writing.put.Reads as put
@@ -53,7 +53,7 @@ laid_one p q = (one_answer p.to q.to, one_answer p.left q.left)
 pub find-tight : (κs a : _) (r s : ℕ) (x y : _) → find.Pre κs a → find.Post κs a r x → find.Post κs a s y → r ≡ s
 find-tight κs a r s x y h p q = found-one _ _ _ _ r s h.1 p q
 
-pub is_word-tight : (κs a : _) (r s : Bool) (x y : _) → is_IsWord.Post κs a r x → is_IsWord.Post κs a s y → r ≡ s
+pub is_word-tight : (κs a : _) (r s : Bool) (x y : _) → is_word.Post κs a r x → is_word.Post κs a s y → r ≡ s
 is_word-tight κs a r s x y = one_answer
 
 pub number-tight : (κs a : _) (r s : ℕ) (x y : _) → number.Post κs a r x → number.Post κs a s y → r ≡ s

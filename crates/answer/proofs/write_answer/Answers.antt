@@ -27,12 +27,15 @@ loop-i-init c =
     none_written _ _ _ _ _ (simp length-set (room-for-all _ _ c.requires.measure_value _ c.requires.words_in_bounds))
 
 pub write_tree-at-requires-clause-fit : goal.write_tree-at-requires-clause-fit
-write_tree-at-requires-clause-fit c = let top = sym c.depth_at.ensures.answers ∙ c.if-depth_at-eq-TOP.true in
-    let most = sym (own-count _ _ c.requires.stored _ c.loop-i-test.true top _ c.requires.counted c.count_at-count.ensures.answers) ∙ c.if-count-greatest.true in tree-fit _ _ c.requires.stored _ c.loop-i-test.true top c.requires.fit_from
+write_tree-at-requires-clause-fit c =
+    let top = sym c.depth_at.ensures.answers ∙ c.if-depth_at-eq-TOP.true in
+    tree-fit _ _ c.requires.stored _ c.loop-i-test.true top c.requires.fit_from
 
 pub write_tree-at-requires-clause-m_in_bounds : goal.write_tree-at-requires-clause-m_in_bounds
-write_tree-at-requires-clause-m_in_bounds c = let top = sym c.depth_at.ensures.answers ∙ c.if-depth_at-eq-TOP.true in
-    let most = sym (own-count _ _ c.requires.stored _ c.loop-i-test.true top _ c.requires.counted c.count_at-count.ensures.answers) ∙ c.if-count-greatest.true in has_room _ _ _ _ _ c.requires.stored c.loop-i.invariant c.loop-i-test.true top most
+write_tree-at-requires-clause-m_in_bounds c =
+    let top = sym c.depth_at.ensures.answers ∙ c.if-depth_at-eq-TOP.true in
+    let most = sym (own-count _ _ c.requires.stored _ c.loop-i-test.true top _ c.requires.counted c.count_at-count.ensures.answers) ∙ (cc) in
+    has_room _ _ _ _ _ c.requires.stored c.loop-i.invariant c.loop-i-test.true top most
 
 pub loop-i-preserved-then-count-greatest : goal.loop-i-preserved-then-count-greatest
 loop-i-preserved-then-count-greatest c =
