@@ -1,12 +1,7 @@
 // The file that the program's argument names, read whole. It refuses a file that cannot be read, with the system's words on
-// standard error, and one that is longer than a table's listing can be.
-ghost use Rattle.std.specs.Prelude.{IfSome, IfOk};
-ghost use Rattle.glyphs.specs.File.{Holds};
-
+// standard error, and one that is longer than its room.
 use crate::TABLE;
 use crate::show::{complain, fail};
-use crate::table::MOST_BYTES;
-use std::alloc::Global;
 use std::env::FillError;
 use std::io::{Read, Write};
 use std::rt::{Env, Files};
@@ -23,65 +18,71 @@ const TOO_LONG: i32 = 36;
 const NO_TEXT: i32 = 84;
 
 // What reading a file comes to.
-#[derive(Drop)]
+#[derive(Clone, Copy)]
 pub enum File {
-    Whole(Vec<u8>),
-    // There is more of it than a listing has.
+    // All of it stands at the room's start.
+    Whole { bytes: usize },
+    // The room holds a part of it.
     Longer,
     // It could not be opened or read, and why is told.
     Unread,
 }
 
 // Tells why a file was not read.
-fn unread<W: Write>(
-    alloc: Global,
-    err: &mut W,
-    path: &[u8],
-    error: &io::Error,
-) -> io::Result<File> {
+fn unread<W: Write>(err: &mut W, path: &[u8], error: &io::Error) -> io::Result<File> {
     complain(err, b"the table cannot be read: ", 0)?;
-    fail(alloc, err, path, error)?;
+    fail(err, path, error)?;
     Ok(File::Unread)
 }
 
 // Reads the file that the first argument names.
 pub fn read_named<S: Env + Files, W: Write>(
     rt: &S,
-    alloc: Global,
     err: &mut W,
+    room: &mut [u8],
 ) -> io::Result<File> {
     let mut path = [0u8; PATH];
     let number = match rt.arg(TABLE, &mut path) {
         Ok(length) => match std::str::from_utf8(&path[..length]) {
-            Ok(path) => return read_at(rt, alloc, err, path),
+            Ok(path) => return read_at(rt, err, path, room),
             Err(_) => NO_TEXT,
         },
         Err(FillError::TooLong) => TOO_LONG,
         Err(FillError::NotPresent) => MISSING,
     };
-    unread(
-        alloc,
-        err,
-        b"its path",
-        &io::Error::from_raw_os_error(number),
-    )
+    unread(err, b"its path", &io::Error::from_raw_os_error(number))
 }
 
-fn read_at<S: Files, W: Write>(rt: &S, alloc: Global, err: &mut W, path: &str) -> io::Result<File> {
-    match fs::open(rt, path).and_then(|file| read_open(alloc, file)) {
+fn read_at<S: Files, W: Write>(
+    rt: &S,
+    err: &mut W,
+    path: &str,
+    room: &mut [u8],
+) -> io::Result<File> {
+    let found = match fs::open(rt, path) {
+        Ok(file) => read_open(file, room),
+        Err(error) => Err(error),
+    };
+    match found {
         Ok(found) => Ok(found),
-        Err(error) => unread(alloc, err, path.as_bytes(), &error),
+        Err(error) => unread(err, path.as_bytes(), &error),
     }
 }
 
-// One byte more than a listing has tells that a file is longer.
-fn read_open<F: Read + Drop>(alloc: Global, file: F) -> io::Result<File>
-    ensures { IfOk result (λ found. IfSome (F.remaining file) (λ xs. Holds found xs)) }
-{
-    let mut bytes = Vec::new(alloc);
-    file.take(MOST_BYTES as u64 + 1).read_to_end(&mut bytes)?;
-    if bytes.len() <= MOST_BYTES {
-        Ok(File::Whole(bytes))
+// A short count is no end: each turn reads a byte at least, or finds the end. Where the room is full, one more read tells
+// whether something is left.
+fn read_open<F: Read + Drop>(mut file: F, room: &mut [u8]) -> io::Result<File> {
+    let mut bytes = 0;
+    while bytes < room.len() {
+        let count = file.read(&mut room[bytes..])?;
+        if count == 0 {
+            return Ok(File::Whole { bytes });
+        }
+        bytes += count;
+    }
+    let mut next = [0u8; 1];
+    if file.read(&mut next)? == 0 {
+        Ok(File::Whole { bytes })
     } else {
         Ok(File::Longer)
     }

@@ -6,7 +6,6 @@ ghost use Rattle.std.specs.Prelude.{◌≡◌, ◌+◌, ◌-◌, ◌^◌, min};
 
 use crate::matching::{Verdict, show_line};
 use crate::show::{fail, part, tell};
-use std::alloc::Global;
 use std::io;
 use std::io::{Read, Write};
 
@@ -185,7 +184,6 @@ fn take<W: Write>(
 
 // Reads to the chunk's start. Why a read failed is told.
 fn read_chunk<R: Read, E: Write>(
-    alloc: Global,
     input: &mut R,
     err: &mut E,
     chunk: &mut [u8; CHUNK],
@@ -194,7 +192,7 @@ fn read_chunk<R: Read, E: Write>(
         Ok(0) => Ok(Chunk::End),
         Ok(count) => Ok(Chunk::Bytes(count)),
         Err(error) => {
-            fail(alloc, err, b"standard input", &error)?;
+            fail(err, b"standard input", &error)?;
             Ok(Chunk::Failed)
         }
     }
@@ -203,7 +201,6 @@ fn read_chunk<R: Read, E: Write>(
 // Writes what is read in the lines of the input, and last what it all comes to. What stands ready is written out before each
 // read, which may wait.
 pub fn show<R: Read, W: Write, E: Write>(
-    alloc: Global,
     input: &mut R,
     out: &mut W,
     err: &mut E,
@@ -215,7 +212,7 @@ pub fn show<R: Read, W: Write, E: Write>(
     let mut progress = Progress::new();
     for _ in 0..TURNS {
         out.flush()?;
-        let found = read_chunk(alloc, input, err, &mut chunk)?;
+        let found = read_chunk(input, err, &mut chunk)?;
         match found {
             Chunk::Bytes(count) => {
                 let bytes = part(&chunk, 0, count);

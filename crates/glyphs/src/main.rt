@@ -22,13 +22,12 @@ mod show;
 mod table;
 
 use crate::file::File;
-use crate::show::complain;
+use crate::show::{complain, part};
 use crate::table::{LISTING, MOST_BYTES, MOST_WORDS};
 use listing::reading::{ReadAnswer, read_table};
-use std::alloc::Global;
 use std::env::FillError;
 use std::io;
-use std::io::{BufWriter, Read, Write};
+use std::io::{Read, Write};
 use std::rt::{Env, Files};
 
 // The argument that names a table, if one does. The program's own name is argument 0.
@@ -50,7 +49,6 @@ fn table_in(room: &[u16], words: usize) -> &[u16]
 
 // Writes what is read in the lines of the input. The encodings are known of the example's own table alone.
 fn show_lines<R: Read, W: Write, E: Write>(
-    alloc: Global,
     input: &mut R,
     out: &mut W,
     err: &mut E,
@@ -60,12 +58,11 @@ fn show_lines<R: Read, W: Write, E: Write>(
     if encoded {
         rules::show(out, table)?;
     }
-    input::show(alloc, input, out, err, table, encoded)
+    input::show(input, out, err, table, encoded)
 }
 
 // Reads a table's listing, and then the lines under that table.
 fn with_listing<R: Read, W: Write, E: Write>(
-    alloc: Global,
     input: &mut R,
     out: &mut W,
     err: &mut E,
@@ -77,7 +74,7 @@ fn with_listing<R: Read, W: Write, E: Write>(
     match answer {
         ReadAnswer::Read { words } => {
             let table = table_in(&room, words as usize);
-            show_lines(alloc, input, out, err, table, encoded)
+            show_lines(input, out, err, table, encoded)
         }
         ReadAnswer::BadText { line } => refusal::bad_listing(err, text, line as usize),
         ReadAnswer::NoRoom => complain(
@@ -91,14 +88,14 @@ fn with_listing<R: Read, W: Write, E: Write>(
 // The table is in the file that the first argument names.
 fn with_file<S: Env + Files, R: Read, W: Write, E: Write>(
     rt: &S,
-    alloc: Global,
     input: &mut R,
     out: &mut W,
     err: &mut E,
 ) -> io::Result<()> {
-    let found = file::read_named(rt, alloc, err)?;
+    let mut text = [0u8; MOST_BYTES];
+    let found = file::read_named(rt, err, &mut text)?;
     match found {
-        File::Whole(text) => with_listing(alloc, input, out, err, text.as_slice(), false),
+        File::Whole { bytes } => with_listing(input, out, err, part(&text, 0, bytes), false),
         File::Longer => complain(
             err,
             b"the table is refused, number 15: it is longer than % bytes\n",
@@ -109,14 +106,13 @@ fn with_file<S: Env + Files, R: Read, W: Write, E: Write>(
 }
 
 fn main(rt: HostRuntime) -> io::Result<()> {
-    let alloc = rt.alloc();
     let mut input = rt.reader();
-    let mut out = BufWriter::new(alloc, io::writer(&rt))?;
+    let mut out = io::writer(&rt);
     let mut err = rt.stderr();
     if !is_given(&rt, TABLE) {
-        with_listing(alloc, &mut input, &mut out, &mut err, &LISTING, true)?;
+        with_listing(&mut input, &mut out, &mut err, &LISTING, true)?;
     } else if !is_given(&rt, TABLE + 1) {
-        with_file(&rt, alloc, &mut input, &mut out, &mut err)?;
+        with_file(&rt, &mut input, &mut out, &mut err)?;
     } else {
         complain(
             &mut err,

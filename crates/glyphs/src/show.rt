@@ -2,12 +2,15 @@
 ghost use Rattle.std.specs.Prelude.{◌≡◌, ◌-◌, ◌<◌, ◌≤◌, [], length, take, drop, OnOk};
 ghost use Rattle.std.specs.Io.KnownBytes.{Appends};
 
-use std::alloc::Global;
+use std::fmt::InlineText;
 use std::io;
 use std::io::Write;
 
 // What std puts behind the system's words for an error, and before its number.
 const NUMBER: &str = " (os error ";
+
+// The bytes that an error's words may have, its number included.
+const WORDS: usize = 128;
 
 pub fn say<W: Write>(out: &mut W, text: &[u8]) -> io::Result<()>
     ensures { OnOk result (Appends (W.contents out.old) (W.contents out.new) text.now) }
@@ -44,13 +47,8 @@ pub fn complain<W: Write>(err: &mut W, text: &[u8], number: usize) -> io::Result
 }
 
 // Tells on standard error what failed, and why in the system's words.
-pub fn fail<W: Write>(
-    alloc: Global,
-    err: &mut W,
-    what: &[u8],
-    error: &io::Error,
-) -> io::Result<()> {
-    let text = format!(in alloc; "{error}")?;
+pub fn fail<W: Write>(err: &mut W, what: &[u8], error: &io::Error) -> io::Result<()> {
+    let text = InlineText::<WORDS>::of(error);
     let words = without_number(text.as_str());
     say(err, what)?;
     writeln!(err, ": {words}")

@@ -4,7 +4,7 @@
 
 use line::LineCheck;
 use std::io;
-use std::io::{BufWriter, Write};
+use std::io::Write;
 use syntax::walker::{Lookahead, Walker};
 
 // Rules: `mov` and whitespace; `mo`; whitespace; `m` of a nested ruleset; `movab`.
@@ -237,7 +237,7 @@ fn sheets<W: Write>(out: &mut W) -> io::Result<()> {
 }
 
 fn main(rt: HostRuntime) -> io::Result<()> {
-    let mut out = BufWriter::new(rt.alloc(), io::writer(&rt))?;
+    let mut out = io::writer(&rt);
     cuts(&mut out)?;
     prefixes(&mut out)?;
     lines(&mut out)?;

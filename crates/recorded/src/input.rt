@@ -1,5 +1,5 @@
 // The parts of a call that only this program has, read from the input: lines, lists of outcome words, sheets.
-ghost use Rattle.std.specs.Prelude.{◌≡◌, length, min, IfOk};
+ghost use Rattle.std.specs.Prelude.{◌≡◌, length, min, IfOk, OnErr};
 ghost use Rattle.std.specs.Io.{ReadsAtMost};
 
 use sample::{at_most, length, number};
@@ -22,6 +22,7 @@ fn number_8<R: Read>(input: &mut R) -> io::Result<u8> {
 pub fn read_line<R: Read>(input: &mut R, line: &mut [u8], wanted: usize) -> io::Result<usize>
     ensures value { IfOk result (λ n. n ≡ min wanted (length line.old)) }
     ensures bound { ReadsAtMost result line.new }
+    ensures err { OnErr result (length line.new ≡ length line.old) }
 {
     let n = at_most(wanted, line.len());
     for byte in &mut line[..n] {
@@ -34,6 +35,7 @@ pub fn read_line<R: Read>(input: &mut R, line: &mut [u8], wanted: usize) -> io::
 pub fn read_list<R: Read>(input: &mut R, list: &mut [u32], wanted: usize) -> io::Result<usize>
     ensures value { IfOk result (λ n. n ≡ min wanted (length list.old)) }
     ensures bound { ReadsAtMost result list.new }
+    ensures err { OnErr result (length list.new ≡ length list.old) }
 {
     let n = at_most(wanted, list.len());
     for word in &mut list[..n] {
@@ -56,6 +58,7 @@ fn read_entry<R: Read>(input: &mut R, sheet: &mut [u8]) -> io::Result<()> {
 pub fn read_sheet<R: Read>(input: &mut R, sheet: &mut [u8], wanted: usize) -> io::Result<usize>
     ensures value { IfOk result (λ n. n ≡ min wanted (length sheet.old)) }
     ensures bound { ReadsAtMost result sheet.new }
+    ensures err { OnErr result (length sheet.new ≡ length sheet.old) }
 {
     let entries = number(input)?;
     for _ in 0..entries {

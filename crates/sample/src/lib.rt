@@ -1,9 +1,9 @@
 // Reading and writing for the programs that replay recorded cases. Input is read a byte at a time: names, and numbers in
 // decimal. One too large for its bits counts as the largest. Output is text, and numbers in decimal. Of a reader and a writer
-// a program lends its own, buffered, over standard input and output. An error of either is passed on.
+// a program lends its own, over standard input and output. An error of either is passed on.
 #![tactic(auto)]
 
-ghost use Rattle.std.specs.Prelude.{◌≡◌, ◌+◌, ◌*◌, ◌-◌, ◌^◌, ◌≤◌, ◌++◌, length, take, drop, min, slice_index, codes, decimal, Some, IfSome, IfOk, OnOk};
+ghost use Rattle.std.specs.Prelude.{◌≡◌, ◌+◌, ◌*◌, ◌-◌, ◌^◌, ◌≤◌, ◌++◌, length, take, drop, min, slice_index, codes, decimal, Some, IfSome, IfOk, OnOk, OnErr};
 ghost use Rattle.std.specs.Io.{ReadsAtMost};
 ghost use Rattle.std.specs.Io.KnownBytes.{Appends};
 
@@ -131,6 +131,7 @@ pub fn words_of(room: &[u16], wanted: usize) -> usize
 pub fn read_words<R: Read>(input: &mut R, table: &mut [u16], wanted: usize) -> io::Result<usize>
     ensures value { IfOk result (λ n. n ≡ min wanted (length table.old)) }
     ensures bound { ReadsAtMost result table.new }
+    ensures err { OnErr result (length table.new ≡ length table.old) }
 {
     let n = at_most(wanted, table.len());
     for word in &mut table[..n] {

@@ -1,5 +1,5 @@
 // The parts of a case that only this program has, read from the input: words, and texts with escapes.
-ghost use Rattle.std.specs.Prelude.{◌≡◌, ◌≤◌, length, min, take};
+ghost use Rattle.std.specs.Prelude.{◌≡◌, ◌≤◌, length, min, take, OnErr};
 ghost use Rattle.std.specs.Io.{ReadsAtMost};
 
 use sample::{END, TURNS, at_most, byte};
@@ -53,7 +53,8 @@ fn unescaped<R: Read>(input: &mut R, b: u8) -> io::Result<u8> {
 // Reads a text to the start of some bytes, up to the line's end, and gives its length; or the length of all the bytes, if
 // they are too few to see that it ends.
 pub fn read_text<R: Read>(input: &mut R, text: &mut [u8]) -> io::Result<usize>
-    ensures { ReadsAtMost result text.new }
+    ensures bound { ReadsAtMost result text.new }
+    ensures err { OnErr result (length text.new ≡ length text.old) }
 {
     for n in 0..text.len() {
         let b = byte(input)?;

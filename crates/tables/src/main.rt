@@ -16,11 +16,11 @@ mod input;
 mod output;
 
 use std::io;
-use std::io::{BufReader, BufWriter, Write};
+use std::io::Write;
 
 fn main(rt: HostRuntime) -> io::Result<()> {
-    let mut input = BufReader::new(rt.alloc(), rt.reader())?;
-    let mut out = BufWriter::new(rt.alloc(), io::writer(&rt))?;
+    let mut input = rt.reader();
+    let mut out = io::writer(&rt);
     for _ in 0..sample::TURNS {
         if !calls::replay(&mut input, &mut out)? {
             break;
