@@ -5,8 +5,8 @@
  * refuses bad input by a number; fields that a number does not name are 0. A refusal leaves what was lent unchanged, except
  * that a tie (13) still marks guesses. What a call writes to must overlap nothing else that it is lent. No pointer is kept,
  * and there is no state between calls, so threads may call at once. A length of 0 asks for a pointer that is not null and
- * aligned; nothing is read there. A call takes at most some 128 KiB of stack: that is measured on rules nested to depth 16
- * with 8 parameters each, not proved.
+ * aligned; nothing is read there. A call takes at most some 128 KiB of stack: that was measured with an older kit, on rules
+ * nested to depth 16 with 8 parameters each, and is not proved.
  */
 #ifndef THOLDRIMASH_H
 #define THOLDRIMASH_H

@@ -3,8 +3,8 @@
 //! Safe functions over the matching core of customasm, carried over with a proof of every function.
 //! A call takes any slices, ends, and names each refusal. A refusal leaves what was lent unchanged,
 //! except that a tie on the last pass still marks guesses. Nothing is kept between calls, so any
-//! threads may call at once. A call takes at most some 128 KiB of stack, which is measured, not
-//! proved.
+//! threads may call at once. A call takes at most some 128 KiB of stack, which was measured with an
+//! older kit and is not proved.
 //!
 //! The core is proved; this crate is only tested. The repository's docs/MANUAL.md has all of it at
 //! length: every term, a worked example of each step, and what to do about each number.
