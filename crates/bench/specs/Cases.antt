@@ -1,7 +1,6 @@
 -- Document 01's twelve bench cases, as calls of the definitions, and what it answers. Each gives a list of numbers, so that
 -- all stand in one table.
-use Rattle.std.specs.Prelude.{true, false, List, [], ◌∷◌, ◌++◌, ℕ, length, replicate, set}
-use Rattle.std.proofs.Math.Option.{Option, none, some}
+use Rattle.std.specs.Prelude.{true, false, List, [], ◌∷◌, ◌++◌, ℕ, length, replicate, set, Option, None, Some}
 use Rattle.plain.specs.Told.{Told}
 use Rattle.syntax.specs.Cut.{cut}
 use Rattle.ruledef_map.specs.RuledefMap.{line_prefix, rule_prefix}
@@ -31,8 +30,8 @@ settled r = r.number ∷ r.count ∷ (r.words ++ r.buffer)
 
 -- the cut for a character in a line, from its start; no number if there is none
 abbrev pub placed : Option ℕ → List ℕ
-placed none = []
-placed (some p) = p ∷ []
+placed None = []
+placed (Some p) = p ∷ []
 
 abbrev pub cut_in : ℕ → List ℕ → List ℕ
 cut_in x line = placed (cut line x (walker_at line (length line) 0))

@@ -3,7 +3,8 @@ use mathlib.Core.Path.{◌≡◌, refl, sym, ap, subst}
 use mathlib.Core.Logic.{◌↔◌}
 use mathlib.Core.Bool.{Bool, true}
 use mathlib.Core.List.{List, ◌∷◌}
-use mathlib.Core.Option.{Option, none, some, none-ne-some, some_inj}
+use Rattle.std.specs.Prelude.{Option, None, Some}
+use Rattle.plain.proofs.Options.{none-ne-some, some_inj}
 use Prim.Native.Nat.{ℕ, zero, suc, ◌≤◌, ◌<◌}
 use native.Mathlib.Omega.{arith}
 use Rattle.token.specs.Token.{is_whitespace}
@@ -18,31 +19,31 @@ use Rattle.expressions.proofs.Entries.{end_is}
 use Rattle.expressions.proofs.Starts.{past-white, before-white}
 
 module _ (line : List ℕ) (half : Half) (c : ℕ) where
-  ends_of : (l : ℕ) (o : Option ℕ) → Greatest (EndIn half line c) l o → (e : ℕ) → o ≡ some e → GreatestEnd (EndIn half line c) l e
-  ends_of l none g e q = absurd (none-ne-some e q)
-  ends_of l (some d) g e q = subst (GreatestEnd (EndIn half line c) l) (some_inj.0 q) g
+  ends_of : (l : ℕ) (o : Option ℕ) → Greatest (EndIn half line c) l o → (e : ℕ) → o ≡ Some e → GreatestEnd (EndIn half line c) l e
+  ends_of l None g e q = absurd (none-ne-some e q)
+  ends_of l (Some d) g e q = subst (GreatestEnd (EndIn half line c) l) (some_inj q) g
 
   -- an end that is found is the grammar's greatest within the limit
-  pub found : (l e : ℕ) → end_for line half c l ≡ some e → GreatestEnd (EndIn half line c) l e
+  pub found : (l e : ℕ) → end_for line half c l ≡ Some e → GreatestEnd (EndIn half line c) l e
   found l e q = ends_of l (end_for line half c l) (end_is line half c l) e q
 
   -- an end of the grammar is found under itself as the limit
-  pub end-found : (e : ℕ) → EndIn half line c e ↔ (end_for line half c e ≡ some e)
+  pub end-found : (e : ℕ) → EndIn half line c e ↔ (end_for line half c e ≡ Some e)
   end-found e = (
-    λ x. greatest-one (EndIn half line c) e (end_for line half c e) (some e) (end_is line half c e) (record { ends = x; within = omega arith; greatest = λ d y w. w }),
+    λ x. greatest-one (EndIn half line c) e (end_for line half c e) (Some e) (end_is line half c e) (record { ends = x; within = omega arith; greatest = λ d y w. w }),
     λ q. (found e e q).ends,
   )
 
   -- under a greater limit it is found again, or a greater end is
-  pub grows : (l m e : ℕ) → l ≤ m → end_for line half c l ≡ some e → (f : ℕ) × (end_for line half c m ≡ some f) × (e ≤ f)
+  pub grows : (l m e : ℕ) → l ≤ m → end_for line half c l ≡ Some e → (f : ℕ) × (end_for line half c m ≡ Some f) × (e ≤ f)
   grows l m e h q = go (end_for line half c m) refl (end_is line half c m)
     where
       here : GreatestEnd (EndIn half line c) l e
       here = found l e q
 
-      go : (o : Option ℕ) → end_for line half c m ≡ o → Greatest (EndIn half line c) m o → (f : ℕ) × (end_for line half c m ≡ some f) × (e ≤ f)
-      go none p g = absurd (g e here.ends (omega (arith, here.within)))
-      go (some f) p g = (f, p, g.greatest e here.ends (omega (arith, here.within)))
+      go : (o : Option ℕ) → end_for line half c m ≡ o → Greatest (EndIn half line c) m o → (f : ℕ) × (end_for line half c m ≡ Some f) × (e ≤ f)
+      go None p g = absurd (g e here.ends (omega (arith, here.within)))
+      go (Some f) p g = (f, p, g.greatest e here.ends (omega (arith, here.within)))
 
 -- ---- bytes at or past the limit are never looked at
 
@@ -55,8 +56,8 @@ cut_line a b half c l same =
     greatest-one (EndIn half b c) l (end_for a half c l) (end_for b half c l) (moved (end_for a half c l) (end_is a half c l)) (end_is b half c l)
   where
     moved : (o : Option ℕ) → Greatest (EndIn half a c) l o → Greatest (EndIn half b c) l o
-    moved none g = λ e x w. g e (end-local b a half c e x (λ i h. sym (same i (omega arith)))) w
-    moved (some e) g = record {
+    moved None g = λ e x w. g e (end-local b a half c e x (λ i h. sym (same i (omega arith)))) w
+    moved (Some e) g = record {
       ends = end-local a b half c e g.ends (λ i h. same i (omega (arith, g.within)));
       within = g.within;
       greatest = λ d x w. g.greatest d (end-local b a half c d x (λ i h. sym (same i (omega arith)))) w;

@@ -2,7 +2,8 @@
 use mathlib.Core.Path.{◌≡◌, refl, sym, ap, ap₂, ◌∙◌, subst}
 use mathlib.Core.Bool.{true}
 use mathlib.Core.List.{List}
-use mathlib.Core.Option.{none, some, none-ne-some, some_inj}
+use Rattle.std.specs.Prelude.{None, Some}
+use Rattle.plain.proofs.Options.{none-ne-some, some_inj}
 use Prim.Native.Nat.{ℕ, ◌+◌, ◌*◌, ◌≤◌}
 use native.Mathlib.Nat.{mul-le-mul}
 use native.Mathlib.Omega.{arith}
@@ -26,10 +27,10 @@ refusal : {n : ℕ} (A : Type 0) → (n ≡ 0 → ⊥) → n ≡ 0 → A
 refusal A h e = absurd (h e)
 
 module _ (line sheet : List ℕ) where
-  pub line_refused : (p : ℕ) → fault_at line ≡ some p → FillCall line sheet (fill_says (BadLine p) sheet) × FilledFits line (fill_says (BadLine p) sheet)
+  pub line_refused : (p : ℕ) → fault_at line ≡ Some p → FillCall line sheet (fill_says (BadLine p) sheet) × FilledFits line (fill_says (BadLine p) sheet)
   line_refused p e = (bad_line p e refl, refusal _ (λ z. omega arith))
 
-  module _ (good : fault_at line ≡ none) where
+  module _ (good : fault_at line ≡ None) where
     pub short : length line ≤ 120
     short = ((good-is line).0 good).short
 
@@ -55,7 +56,7 @@ module _ (line sheet : List ℕ) where
 
 -- a line and a lent sheet leave one answer
 pub fill-call-one : (line sheet : List ℕ) (r s : Told) → FillCall line sheet r → FillCall line sheet s → r ≡ s
-fill-call-one line sheet r s (bad_line p e a) (bad_line q f b) = a ∙ ap (λ (x : ℕ). refused_at 3 x sheet) (some_inj.0 (sym e ∙ f)) ∙ sym b
+fill-call-one line sheet r s (bad_line p e a) (bad_line q f b) = a ∙ ap (λ (x : ℕ). refused_at 3 x sheet) (some_inj (sym e ∙ f)) ∙ sym b
 fill-call-one line sheet r s (bad_line p e a) (bad_room f z b) = absurd (none-ne-some p (sym f ∙ e))
 fill-call-one line sheet r s (bad_line p e a) (filled t f z d b) = absurd (none-ne-some p (sym f ∙ e))
 fill-call-one line sheet r s (bad_room e y a) (bad_line q f b) = absurd (none-ne-some q (sym e ∙ f))
@@ -67,7 +68,7 @@ fill-call-one line sheet r s (filled t e y d a) (filled u f z g b) =
     a ∙ ap (λ (x : List ℕ). filled_with (length x) x) (declared-one line t d ∙ sym (declared-one line u g)) ∙ sym b
 
 -- what is filled is a good line's
-pub filled-good : (line sheet : List ℕ) (r : Told) → FillCall line sheet r → r.number ≡ 0 → fault_at line ≡ none
+pub filled-good : (line sheet : List ℕ) (r : Told) → FillCall line sheet r → r.number ≡ 0 → fault_at line ≡ None
 filled-good line sheet r (bad_line p e a) z = let w : ◌≡◌ {A = ℕ} 3 0 = sym (ap (λ (t : Told). t.number) a) ∙ z in absurd (omega arith)
 filled-good line sheet r (bad_room e y a) z = e
 filled-good line sheet r (filled t e y d a) z = e

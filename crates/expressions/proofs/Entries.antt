@@ -2,7 +2,7 @@
 use mathlib.Core.Path.{◌≡◌, refl, sym, ap, ap₂, ◌∙◌, subst}
 use mathlib.Core.Bool.{Bool, true}
 use mathlib.Core.List.{List}
-use mathlib.Core.Option.{Option, none, some}
+use Rattle.std.specs.Prelude.{Option, None, Some}
 use Prim.Native.Nat.{ℕ, ◌+◌, ◌-◌, ◌*◌, ◌/◌, ◌%◌, ◌≤◌, ◌<◌}
 use native.Mathlib.Nat.{mul-add-div_right, mul-add-mod_self_right, div-eq_of_lt, mod-eq_of_lt, add-zero, div-lt_iff_lt-mul, mod-lt, div-add-mod'}
 use native.Mathlib.Decide.{dec_lt}
@@ -49,7 +49,7 @@ module _ (line : List ℕ) where
   entry-is half c l =
       elim (dec_lt l c) [
         | yes h ↦ ap (λ (b : Bool). select b 255 (byte_of (end_for line half c l))) (lt-ltb l c h)
-            ∙ ap byte_of (greatest-one (EndIn half line c) l none (end_for line half c l) (λ e x w. omega (arith, end-span half x)) (end_is half c l))
+            ∙ ap byte_of (greatest-one (EndIn half line c) l None (end_for line half c l) (λ e x w. omega (arith, end-span half x)) (end_is half c l))
         | no h ↦ ap (λ (b : Bool). select b 255 (byte_of (end_for line half c l))) (le-ltb l c (omega (arith, h)))
       ]
 
@@ -58,9 +58,9 @@ module _ (line : List ℕ) where
   entry-by half c l o g =
       ap byte_of (greatest-one (EndIn half line c) l o (end_for line half c l) g (end_is half c l)) ∙ sym (entry-is half c l)
 
-  end-within : (half : Half) (c l : ℕ) (o : Option ℕ) → Greatest (EndIn half line c) l o → (e : ℕ) → o ≡ some e → (c < e) × (e ≤ l) × (e ≤ n)
-  end-within half c l none g e q = let z : ◌≡◌ {A = ℕ} 0 1 = cc in absurd (omega arith)
-  end-within half c l (some d) g e q = let same : d ≡ e = cc in let w = g.within in let s = end-span half g.ends in (omega arith, omega arith, omega arith)
+  end-within : (half : Half) (c l : ℕ) (o : Option ℕ) → Greatest (EndIn half line c) l o → (e : ℕ) → o ≡ Some e → (c < e) × (e ≤ l) × (e ≤ n)
+  end-within half c l None g e q = let z : ◌≡◌ {A = ℕ} 0 1 = cc in absurd (omega arith)
+  end-within half c l (Some d) g e q = let same : d ≡ e = cc in let w = g.within in let s = end-span half g.ends in (omega arith, omega arith, omega arith)
 
   -- ---- the sheet, entry by entry
 
@@ -122,8 +122,8 @@ module _ (line : List ℕ) where
   -- ---- from the relation
 
   entry-declared : (half : Half) (c l : ℕ) (o : Option ℕ) → Greatest (EndIn half line c) l o → EntryIs (EndIn half line c) l (byte_of o)
-  entry-declared half c l none g = no_end g
-  entry-declared half c l (some e) g = at_end g
+  entry-declared half c l None g = no_end g
+  entry-declared half c l (Some e) g = at_end g
 
   pub sheet-declared : SheetIs line (sheet_of line)
   unfolding entry_for
@@ -137,8 +137,8 @@ module _ (line : List ℕ) where
 
   -- which only one sheet fits
   entry-told : (half : Half) (c l b : ℕ) → EntryIs (EndIn half line c) l b → b ≡ entry_for line half c l
-  entry-told half c l b (at_end g) = entry-by half c l (some b) g
-  entry-told half c l b (no_end g) = entry-by half c l none g
+  entry-told half c l b (at_end g) = entry-by half c l (Some b) g
+  entry-told half c l b (no_end g) = entry-by half c l None g
 
   pub declared-one : (sheet : List ℕ) → SheetIs line sheet → sheet ≡ sheet_of line
   unfolding entry_for
@@ -152,9 +152,9 @@ module _ (line : List ℕ) where
 
   byte_fits : (half : Half) (c l : ℕ) (o : Option ℕ) → Greatest (EndIn half line c) l o → entry_fits c l (byte_of o) ≡ true
   unfolding entry_fits
-  byte_fits half c l none g = refl
-  byte_fits half c l (some e) g =
-      let (low, high, inside) = end-within half c l (some e) g e refl in
+  byte_fits half c l None g = refl
+  byte_fits half c l (Some e) g =
+      let (low, high, inside) = end-within half c l (Some e) g e refl in
       or_right (eqb e 255) _ (and_both _ _ (le-leb c e (omega arith)) (le-leb e l high))
 
   entry-fits : (half : Half) (c l : ℕ) → c ≤ n → l ≤ n → fits_at (sheet_of line) n half c l ≡ true
@@ -173,9 +173,9 @@ module _ (line : List ℕ) where
   -- ---- read back, in a line of at most 254 bytes
 
   pub byte-back : (half : Half) (c l : ℕ) (o : Option ℕ) → n < 255 → Greatest (EndIn half line c) l o → entry_end (byte_of o) ≡ o
-  byte-back half c l none short g = refl
-  byte-back half c l (some e) short g =
-      let (low, high, inside) = end-within half c l (some e) g e refl in
+  byte-back half c l None short g = refl
+  byte-back half c l (Some e) short g =
+      let (low, high, inside) = end-within half c l (Some e) g e refl in
       sym (end-some e (λ q. omega arith))
 
   pub end_back : n < 255 → (half : Half) (c l : ℕ) → c ≤ l → l ≤ n → end_in (sheet_of line) n half c l ≡ end_for line half c l

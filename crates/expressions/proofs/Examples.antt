@@ -1,7 +1,7 @@
 -- Worked examples, computed from the definitions.
 use mathlib.Core.Path.{◌≡◌, refl}
 use mathlib.Core.List.{List, [], ◌∷◌, ◌++◌}
-use mathlib.Core.Option.{Option, none, some}
+use Rattle.std.specs.Prelude.{Option, None, Some}
 use Prim.Native.Nat.{ℕ, suc}
 use Rattle.plain.specs.Lists.{range, listed}
 use Rattle.token.specs.Token.{is_whitespace}
@@ -43,19 +43,19 @@ examples =
     ∷ []
 
 pub computed : examples
-    ≡ (none ∷ some 1 ∷ some 1 ∷ some 1 ∷ some 1 ∷ some 1 ∷ some 1 ∷ some 1 ∷ some 8 ∷ some 8 ∷ some 8 ∷ some 11 ∷ [])
-    ∷ (none ∷ some 1 ∷ some 2 ∷ [])
-    ∷ (none ∷ some 1 ∷ some 1 ∷ some 1 ∷ [])
-    ∷ (none ∷ none ∷ none ∷ none ∷ none ∷ some 5 ∷ [])
-    ∷ (none ∷ none ∷ [])
-    ∷ (none ∷ none ∷ none ∷ [])
-    ∷ (none ∷ some 1 ∷ some 1 ∷ [])
-    ∷ (none ∷ some 1 ∷ some 2 ∷ some 3 ∷ [])
-    ∷ (none ∷ some 1 ∷ some 1 ∷ some 1 ∷ [])
-    ∷ (none ∷ none ∷ some 2 ∷ some 2 ∷ some 2 ∷ some 2 ∷ some 2 ∷ some 7 ∷ [])
-    ∷ (none ∷ none ∷ some 2 ∷ some 2 ∷ some 2 ∷ [])
-    ∷ (none ∷ none ∷ none ∷ some 3 ∷ [])
-    ∷ (none ∷ none ∷ none ∷ [])
+    ≡ (None ∷ Some 1 ∷ Some 1 ∷ Some 1 ∷ Some 1 ∷ Some 1 ∷ Some 1 ∷ Some 1 ∷ Some 8 ∷ Some 8 ∷ Some 8 ∷ Some 11 ∷ [])
+    ∷ (None ∷ Some 1 ∷ Some 2 ∷ [])
+    ∷ (None ∷ Some 1 ∷ Some 1 ∷ Some 1 ∷ [])
+    ∷ (None ∷ None ∷ None ∷ None ∷ None ∷ Some 5 ∷ [])
+    ∷ (None ∷ None ∷ [])
+    ∷ (None ∷ None ∷ None ∷ [])
+    ∷ (None ∷ Some 1 ∷ Some 1 ∷ [])
+    ∷ (None ∷ Some 1 ∷ Some 2 ∷ Some 3 ∷ [])
+    ∷ (None ∷ Some 1 ∷ Some 1 ∷ Some 1 ∷ [])
+    ∷ (None ∷ None ∷ Some 2 ∷ Some 2 ∷ Some 2 ∷ Some 2 ∷ Some 2 ∷ Some 7 ∷ [])
+    ∷ (None ∷ None ∷ Some 2 ∷ Some 2 ∷ Some 2 ∷ [])
+    ∷ (None ∷ None ∷ None ∷ Some 3 ∷ [])
+    ∷ (None ∷ None ∷ None ∷ [])
     ∷ []
 unfolding free row_from row_of term_at up_to run_end run_to sign_at token_at is_digit is_letter is_alnum is_operator is_minus is_opener is_closer skipped useful_from is_whitespace range listed
 computed = refl
@@ -71,10 +71,10 @@ small-sheet = refl
 abbrev times : ℕ → ℕ → List ℕ → List ℕ
 times n b rest = listed n (λ i. b) ++ rest
 
-pub deep : free (times 60 40 (49 ∷ times 60 41 [])) 0 121 ≡ some 121
+pub deep : free (times 60 40 (49 ∷ times 60 41 [])) 0 121 ≡ Some 121
 unfolding free row_from row_of term_at up_to run_end run_to sign_at token_at is_digit is_letter is_alnum is_operator is_minus is_opener is_closer skipped useful_from is_whitespace range listed
 deep = refl
 
-pub signs : free (times 119 45 (49 ∷ [])) 0 120 ≡ some 120
+pub signs : free (times 119 45 (49 ∷ [])) 0 120 ≡ Some 120
 unfolding free row_from row_of term_at up_to run_end run_to sign_at token_at is_digit is_letter is_alnum is_operator is_minus is_opener is_closer skipped useful_from is_whitespace range listed
 signs = refl

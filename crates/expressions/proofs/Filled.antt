@@ -5,7 +5,7 @@ use mathlib.Core.Path.{◌≡◌, refl, sym, ap, ◌∙◌, subst}
 use mathlib.Core.Logic.{◌⊎◌, inl, inr}
 use mathlib.Core.Bool.{Bool, true, false}
 use mathlib.Core.List.{List}
-use mathlib.Core.Option.{Option, none, some}
+use Rattle.std.specs.Prelude.{Option, None, Some}
 use Prim.Native.Nat.{ℕ, suc, ◌+◌, ◌-◌, ◌*◌, ◌≤◌, ◌<◌}
 use native.Mathlib.Nat.{mul-le-mul, mul-le-mul_right, add-mul, one-mul}
 use native.Mathlib.Numerals.{add-one}
@@ -183,7 +183,7 @@ module _ (line before after : List ℕ) (half : Half) (c : ℕ) (made : Made lin
 -- a start without an end
 pub row-none : (line before after : List ℕ) (half : Half) (c : ℕ) → ((e : ℕ) → EndIn half line c e → ⊥)
     → Lays before after (row_start (length line) half c) 0 (length line + 1) (λ (l : ℕ). 255) → RowLaid line before after half c
-row-none line before after half c none_here k = lays-as (entry_for line half c) (λ l a b. entry-by line half c l none (λ e x w. none_here e x)) k
+row-none line before after half c none_here k = lays-as (entry_for line half c) (λ l a b. entry-by line half c l None (λ e x w. none_here e x)) k
 
 -- ends from low + 1 to top, and none after them
 pub row_ends : (line before between after : List ℕ) (half : Half) (c low top : ℕ) → ((l : ℕ) → Greatest (EndIn half line c) l (up_to low top l))
@@ -199,7 +199,7 @@ row_ends line before between after half c low top is more within a b =
 
 module _ (line before between after : List ℕ) (c low top : ℕ) (made : Made line before (c + 1)) (start : c < length line) (ends : TermEnds line c low top)
     (first : Lays before between (c * (length line + 1)) 0 (top + 1) (λ (l : ℕ). byte_of (up_to low top l))) where
-  pub free-alone : sign_at is_operator line top ≡ none → Lays between after (c * (length line + 1)) (top + 1) (length line + 1) (λ (l : ℕ). top)
+  pub free-alone : sign_at is_operator line top ≡ None → Lays between after (c * (length line + 1)) (top + 1) (length line + 1) (λ (l : ℕ). top)
       → FreeLaid line before after c top
   free-alone e second = record {
     row = row_ends line before between after Free c low top (alone-within line c low top ends e) ends.some ends.inside first second;
@@ -209,7 +209,7 @@ module _ (line before between after : List ℕ) (c low top : ℕ) (made : Made l
   module _ (p : ℕ) (sign : Begins is_operator line top p) (next : ℕ) (is : next ≡ suc p) where
     -- nothing from past the operator ends before it
     low_end : (l : ℕ) → l ≤ top → Greatest (Expr line c) l (up_to low top l)
-    low_end l h = joined-within line c low top ends p sign l none (λ e x w. omega (arith, sign.from, expr-span x))
+    low_end l h = joined-within line c low top ends p sign l None (λ e x w. omega (arith, sign.from, expr-span x))
 
     pub next-in : (c < next) × (next ≤ length line)
     next-in = let a = ends.after in let b = ends.some in let d = sign.from in let i = inside operator line p sign.here in (omega arith, omega arith)
@@ -224,8 +224,8 @@ module _ (line before between after : List ℕ) (c low top : ℕ) (made : Made l
         ∙ entry-is line Free next l
 
     joined-byte : (l : ℕ) (o : Option ℕ) → top + 1 ≤ l → Greatest (Expr line next) l o → select (eqb (byte_of o) 255) top (byte_of o) ≡ byte_of (or_else o (up_to low top l))
-    joined-byte l none h g = ends-past low top l ends.some h
-    joined-byte l (some e) h g =
+    joined-byte l None h g = ends-past low top l ends.some h
+    joined-byte l (Some e) h g =
         let far = expr-span g.ends in
         ap (λ (b : Bool). select b top e) (ne_eqb e 255 (λ q. omega (arith, made.short)))
 
@@ -257,10 +257,10 @@ module _ (line before after : List ℕ) (c : ℕ) (made : Made line before (c + 
   }
 
   -- no term
-  pub free-none : TermIs line c none → Lays before after (c * (length line + 1)) 0 (length line + 1) (λ (l : ℕ). 255) → FreeLaid line before after c 255
+  pub free-none : TermIs line c None → Lays before after (c * (length line + 1)) 0 (length line + 1) (λ (l : ℕ). 255) → FreeLaid line before after c 255
   free-none (no_terms t) k =
       let none_here = none_is line c t in
-      record { row = lays-as (entry_for line Free c) (λ l a b. entry-by line Free c l none (none_here.within l)) k; ends = none_here.whole }
+      record { row = lays-as (entry_for line Free c) (λ l a b. entry-by line Free c l None (none_here.within l)) k; ends = none_here.whole }
 
 -- what the code is told of the term at c
 module _ (line wholes : List ℕ) (c inner : ℕ) (w : Wholes line wholes (c + 1)) (start : c < length line) (q : inner ≡ get_or wholes (c + 1) 0) where
@@ -273,13 +273,13 @@ module _ (line wholes : List ℕ) (c inner : ℕ) (w : Wholes line wholes (c + 1
       (omega (arith, t.many), t.each m (omega arith) high)
 
   module _ {r : Bool} (p : r ≡ changes_none (byte_at line c)) (f : r ≡ false) where
-    pub term-none : none ≡ term_at line (entry_end inner) c → TermIs line c none
+    pub term-none : None ≡ term_at line (entry_end inner) c → TermIs line c None
     term-none e = subst (TermIs line c) (sym e) (term_is line (entry_end inner) c inner-whole (sym p ∙ f))
 
-    pub term-some : (low top : ℕ) → some (record { low = low; top = top }) ≡ term_at line (entry_end inner) c → TermEnds line c low top
+    pub term-some : (low top : ℕ) → Some (record { low = low; top = top }) ≡ term_at line (entry_end inner) c → TermEnds line c low top
     term-some low top e = go (subst (TermIs line c) (sym e) (term_is line (entry_end inner) c inner-whole (sym p ∙ f)))
       where
-        go : TermIs line c (some (record { low = low; top = top })) → TermEnds line c low top
+        go : TermIs line c (Some (record { low = low; top = top })) → TermEnds line c low top
         go (some_term t) = t
 
 -- ---- a greedy row
@@ -343,7 +343,7 @@ module _ {r : Bool} (line : List ℕ) (m t b : ℕ) (token : t ≡ token_at line
   operator-here : r ≡ true → Begins is_operator line m t
   operator-here h = begins-there operator line m t (sign-on is_operator line m t b token byte (sym is ∙ h))
 
-  pub operator-none : r ≡ false → sign_at is_operator line m ≡ none
+  pub operator-none : r ≡ false → sign_at is_operator line m ≡ None
   operator-none h = sign-off is_operator line m t b token byte (sym is ∙ h)
 
 -- the token after a term is known

@@ -3,7 +3,8 @@ use mathlib.Core.Path.{◌≡◌, refl, sym, ap, ◌∙◌, subst}
 use mathlib.Core.Logic.{◌⊎◌, inl, inr, ⊎_elim}
 use mathlib.Core.Bool.{Bool, true, false}
 use mathlib.Core.List.{List}
-use mathlib.Core.Option.{Option, none, some, none-ne-some, some_inj}
+use Rattle.std.specs.Prelude.{Option, None, Some}
+use Rattle.plain.proofs.Options.{none-ne-some, some_inj}
 use Prim.Native.Nat.{ℕ, zero, suc, ◌+◌, ◌≤◌, ◌<◌}
 use native.Mathlib.Decide.{dec_lt}
 use native.Mathlib.Omega.{arith}
@@ -59,7 +60,7 @@ module _ (line : List ℕ) (c low top : ℕ) (ends : TermEnds line c low top) wh
   whole-term : Term line c top
   whole-term = ends.each top ends.some (omega arith)
 
-  module _ (none_after : sign_at is_operator line top ≡ none) where
+  module _ (none_after : sign_at is_operator line top ≡ None) where
     alone : (e : ℕ) → Expr line c e → Term line c e
     alone e (term t) = t
     alone e (joined {m = m} t s x) =
@@ -69,10 +70,10 @@ module _ (line : List ℕ) (c low top : ℕ) (ends : TermEnds line c low top) wh
     pub alone-within : (l : ℕ) → Greatest (Expr line c) l (up_to low top l)
     alone-within l = up-greatest low top l (Expr line c) (λ e a b. term (ends.each e a b)) (λ e x. ends.only e (alone e x))
 
-    pub alone-whole : WholeIs line c (some top)
+    pub alone-whole : WholeIs line c (Some top)
     alone-whole = record {
-      ends = λ m q. subst (Expr line c) (some_inj.0 q) (term whole-term);
-      only = λ m p x b. ap {B = Option ℕ} some (sym (ends.last m p closer-parts (alone m x) b));
+      ends = λ m q. subst (Expr line c) (some_inj q) (term whole-term);
+      only = λ m p x b. ap {B = Option ℕ} Some (sym (ends.last m p closer-parts (alone m x) b));
     }
 
   module _ (p : ℕ) (sign : Begins is_operator line top p) where
@@ -116,12 +117,12 @@ module _ (line : List ℕ) (c low top : ℕ) (ends : TermEnds line c low top) wh
 -- ---- the row of a start
 
 module _ (line : List ℕ) (later : ℕ → Row) (c : ℕ) (given : (k : ℕ) → c < k → RowIs line k (later k)) where
-  term-row : (t : TermAt) → TermEnds line c t.low t.top → RowIs line c (term_row line later (some t))
+  term-row : (t : TermAt) → TermEnds line c t.low t.top → RowIs line c (term_row line later (Some t))
   term-row t ends = go (sign_at is_operator line t.top) refl
     where
       go : (o : Option ℕ) → sign_at is_operator line t.top ≡ o → RowIs line c (joined_at later t o)
-      go none e = record { within = alone-within line c t.low t.top ends e; whole = alone-whole line c t.low t.top ends e }
-      go (some p) e =
+      go None e = record { within = alone-within line c t.low t.top ends e; whole = alone-whole line c t.low t.top ends e }
+      go (Some p) e =
           let sign = begins-there operator line t.top p e in
           let r = given (suc p) (next-after line c t.low t.top ends p sign) in
           record {
@@ -131,25 +132,25 @@ module _ (line : List ℕ) (later : ℕ → Row) (c : ℕ) (given : (k : ℕ) �
 
 -- the term that is found at a start is the grammar's
 pub data TermIs (line : List ℕ) (c : ℕ) : Option TermAt → Type 0 where
-  some_term : {t : TermAt} → TermEnds line c t.low t.top → TermIs line c (some t)
-  no_terms : ((e : ℕ) → Term line c e → ⊥) → TermIs line c none
+  some_term : {t : TermAt} → TermEnds line c t.low t.top → TermIs line c (Some t)
+  no_terms : ((e : ℕ) → Term line c e → ⊥) → TermIs line c None
 
 module _ (line : List ℕ) (inner : Option ℕ) (c : ℕ) (whole : WholeIs line (suc c) inner) where
   module _ (at : is_opener (byte_at line c) ≡ true) where
     -- where no expression is closed, there is no term
-    unclosed : ((m p : ℕ) → Expr line (suc c) m → Begins is_closer line m p → ⊥) → TermIs line c none
+    unclosed : ((m p : ℕ) → Expr line (suc c) m → Begins is_closer line m p → ⊥) → TermIs line c None
     unclosed nowhere = no_terms (λ e t. let k = opener-only line c at e t in nowhere k.end k.place k.inner k.closes)
 
-    closed-at : (m : ℕ) → inner ≡ some m → (o : Option ℕ) → sign_at is_closer line m ≡ o → TermIs line c (closed_at o)
-    closed-at m e none q = unclosed (λ n p x b.
-        begins-nowhere closer line m q p (subst (λ (k : ℕ). Begins is_closer line k p) (some_inj.0 (sym (whole.only n p x b) ∙ e)) b))
-    closed-at m e (some p) q =
+    closed-at : (m : ℕ) → inner ≡ Some m → (o : Option ℕ) → sign_at is_closer line m ≡ o → TermIs line c (closed_at o)
+    closed-at m e None q = unclosed (λ n p x b.
+        begins-nowhere closer line m q p (subst (λ (k : ℕ). Begins is_closer line k p) (some_inj (sym (whole.only n p x b) ∙ e)) b))
+    closed-at m e (Some p) q =
         some_term (parens-end line c at m p (whole.ends m e) (begins-there closer line m p q)
-        (λ n r x b. some_inj.0 (sym (whole.only n r x b) ∙ e)))
+        (λ n r x b. some_inj (sym (whole.only n r x b) ∙ e)))
 
     closed-after : (o : Option ℕ) → inner ≡ o → TermIs line c (closed_after line o)
-    closed-after none e = unclosed (λ m p x b. none-ne-some m (sym e ∙ whole.only m p x b))
-    closed-after (some m) e = closed-at m e (sign_at is_closer line m) refl
+    closed-after None e = unclosed (λ m p x b. none-ne-some m (sym e ∙ whole.only m p x b))
+    closed-after (Some m) e = closed-at m e (sign_at is_closer line m) refl
 
   pub term_is : changes_none (byte_at line c) ≡ false → TermIs line c (term_at line inner c)
   unfolding term_at
@@ -161,17 +162,17 @@ module _ (line : List ℕ) (inner : Option ℕ) (c : ℕ) (whole : WholeIs line 
       no_minus : is_minus (byte_at line c) ≡ false
       no_minus = or-false-right (is_whitespace (byte_at line c)) (is_minus (byte_at line c)) h
 
-      by-opener : (t : Bool) → is_digit (byte_at line c) ≡ false → is_letter (byte_at line c) ≡ false → is_opener (byte_at line c) ≡ t → TermIs line c (select t (closed_after line inner) none)
+      by-opener : (t : Bool) → is_digit (byte_at line c) ≡ false → is_letter (byte_at line c) ≡ false → is_opener (byte_at line c) ≡ t → TermIs line c (select t (closed_after line inner) None)
       by-opener true d l e = closed-after e inner refl
       by-opener false d l e = no_terms (no-term line c bare no_minus d l e)
 
       by-letter : (t : Bool) → is_digit (byte_at line c) ≡ false → is_letter (byte_at line c) ≡ t
-          → TermIs line c (select t (some (record { low = c; top = run_end is_alnum line c })) (select (is_opener (byte_at line c)) (closed_after line inner) none))
+          → TermIs line c (select t (Some (record { low = c; top = run_end is_alnum line c })) (select (is_opener (byte_at line c)) (closed_after line inner) None))
       by-letter true d e = some_term (name-ends line c e)
       by-letter false d e = by-opener (is_opener (byte_at line c)) d e refl
 
       by-digit : (t : Bool) → is_digit (byte_at line c) ≡ t
-          → TermIs line c (select t (some (record { low = c; top = run_end is_digit line c })) (select (is_letter (byte_at line c)) (some (record { low = c; top = run_end is_alnum line c })) (select (is_opener (byte_at line c)) (closed_after line inner) none)))
+          → TermIs line c (select t (Some (record { low = c; top = run_end is_digit line c })) (select (is_letter (byte_at line c)) (Some (record { low = c; top = run_end is_alnum line c })) (select (is_opener (byte_at line c)) (closed_after line inner) None)))
       by-digit true e = some_term (digits-end line c e)
       by-digit false e = by-letter (is_letter (byte_at line c)) e refl
 
@@ -194,8 +195,8 @@ row_is line later c given = go (changes_none (byte_at line c)) refl
     next = given (suc c) (omega arith)
 
     by-term : (o : Option TermAt) → TermIs line c o → RowIs line c (term_row line later o)
-    by-term (some t) (some_term ends) = term-row line later c given t ends
-    by-term none (no_terms n) = none_is line c n
+    by-term (Some t) (some_term ends) = term-row line later c given t ends
+    by-term None (no_terms n) = none_is line c n
 
     go : (t : Bool) → changes_none (byte_at line c) ≡ t → RowIs line c (select t (later (suc c)) (term_row line later (term_at line (later (suc c)).whole c)))
     go true e = moved line c (suc c) (past-none line c e) (before-none line c e) (later (suc c)) next

@@ -3,7 +3,8 @@
 use mathlib.Core.Path.{◌≡◌, refl, sym, ap, ◌∙◌, subst}
 use mathlib.Core.Bool.{Bool, true, false}
 use mathlib.Core.List.{List, []}
-use mathlib.Core.Option.{none, some, none-ne-some, some-ne-none, some_inj}
+use Rattle.std.specs.Prelude.{None, Some}
+use Rattle.plain.proofs.Options.{none-ne-some, some-ne-none, some_inj}
 use Prim.Native.Nat.{ℕ, suc, ◌+◌, ◌≤◌, ◌<◌}
 use native.Mathlib.Decide.{dec_lt, ℕ_discrete}
 use native.Mathlib.Omega.{arith}
@@ -32,8 +33,8 @@ unfolding token_at useful_from useful skipped
 token-from line c =
     elim (dec_lt (length line) c) [
       | no h ↦ (useful-is line (record { cursor = c; limit = length line }) (omega (arith, h), omega arith)).from
-      | yes h ↦ let none : slice c (length line) line ≡ [] = drop_of_length-le (take (length line) line) {i = c} (omega (arith, length-take-le (length line) line (omega arith))) in
-          rw none (omega arith)
+      | yes h ↦ let empty : slice c (length line) line ≡ [] = drop_of_length-le (take (length line) line) {i = c} (omega (arith, length-take-le (length line) line (omega arith))) in
+          rw empty (omega arith)
     ]
 
 -- it is that of the next start, if whitespace stands here
@@ -73,19 +74,19 @@ module _ {kind : ℕ → Bool} (k : Kind kind) (line : List ℕ) (c : ℕ) where
       let place = useful-is line (record { cursor = c; limit = length line }) (omega arith, omega arith) in
       record { from = low; blank = place.passed; here = h }
 
-  pub begins-there : (p : ℕ) → sign_at kind line c ≡ some p → Begins kind line c p
+  pub begins-there : (p : ℕ) → sign_at kind line c ≡ Some p → Begins kind line c p
   unfolding sign_at
   begins-there p e = go (kind (byte_at line (token_at line c))) refl e
     where
-      go : (t : Bool) → kind (byte_at line (token_at line c)) ≡ t → select t (some (token_at line c)) none ≡ some p → Begins kind line c p
-      go true h q = subst (λ (n : ℕ). Begins kind line c n) (some_inj.0 q) (token_begins h)
+      go : (t : Bool) → kind (byte_at line (token_at line c)) ≡ t → select t (Some (token_at line c)) None ≡ Some p → Begins kind line c p
+      go true h q = subst (λ (n : ℕ). Begins kind line c n) (some_inj q) (token_begins h)
       go false h q = absurd (none-ne-some p q)
 
-  pub begins-nowhere : sign_at kind line c ≡ none → (p : ℕ) → Begins kind line c p → ⊥
+  pub begins-nowhere : sign_at kind line c ≡ None → (p : ℕ) → Begins kind line c p → ⊥
   unfolding sign_at
   begins-nowhere e p b = go (kind (byte_at line (token_at line c))) refl e
     where
-      go : (t : Bool) → kind (byte_at line (token_at line c)) ≡ t → select t (some (token_at line c)) none ≡ none → ⊥
+      go : (t : Bool) → kind (byte_at line (token_at line c)) ≡ t → select t (Some (token_at line c)) None ≡ None → ⊥
       go true h q = some-ne-none (token_at line c) q
       go false h q = not-both b.here (ap (λ (n : ℕ). kind (byte_at line n)) (begins-once p b) ∙ h)
 

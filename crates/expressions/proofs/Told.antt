@@ -2,7 +2,7 @@
 use mathlib.Core.Path.{◌≡◌, sym, ap, ap₂, ◌∙◌}
 use mathlib.Core.Bool.{Bool, true, false, ◌||◌}
 use mathlib.Core.List.{List}
-use mathlib.Core.Option.{Option, none, some}
+use Rattle.std.specs.Prelude.{Option, None, Some}
 use Prim.Native.Nat.{ℕ, ◌+◌, ◌≤◌, ◌<◌}
 use native.Mathlib.Numerals.{add-one}
 use native.Mathlib.Omega.{arith}
@@ -29,34 +29,34 @@ module _ (kind : ℕ → Bool) (line : List ℕ) (m t b : ℕ) (token : t ≡ to
   same_kind : kind (byte_at line (token_at line m)) ≡ kind b
   same_kind = ap kind (sym (byte ∙ ap (byte_at line) token))
 
-  pub sign-off : kind b ≡ false → sign_at kind line m ≡ none
+  pub sign-off : kind b ≡ false → sign_at kind line m ≡ None
   unfolding sign_at
-  sign-off h = ap (λ (x : Bool). select x (some (token_at line m)) none) (same_kind ∙ h)
+  sign-off h = ap (λ (x : Bool). select x (Some (token_at line m)) None) (same_kind ∙ h)
 
-  pub sign-on : kind b ≡ true → sign_at kind line m ≡ some t
+  pub sign-on : kind b ≡ true → sign_at kind line m ≡ Some t
   unfolding sign_at
-  sign-on h = ap (λ (x : Bool). select x (some (token_at line m)) none) (same_kind ∙ h) ∙ ap {B = Option ℕ} some (sym token)
+  sign-on h = ap (λ (x : Bool). select x (Some (token_at line m)) None) (same_kind ∙ h) ∙ ap {B = Option ℕ} Some (sym token)
 
 -- ---- an expression in parentheses
 
 module _ (line : List ℕ) (inner : ℕ) where
-  pub closed-nothing : inner ≡ 255 → none ≡ closed_after line (entry_end inner)
-  closed-nothing h = sym (ap (λ (x : Bool). closed_after line (select x none (some inner))) (eq-eqb inner 255 h))
+  pub closed-nothing : inner ≡ 255 → None ≡ closed_after line (entry_end inner)
+  closed-nothing h = sym (ap (λ (x : Bool). closed_after line (select x None (Some inner))) (eq-eqb inner 255 h))
 
   module _ (is : inner ≡ 255 → ⊥) where
     after_is : (o : Option ℕ) → sign_at is_closer line inner ≡ o → closed_at o ≡ closed_after line (entry_end inner)
     after_is o e = sym (ap (closed_after line) (sym (end-some inner is)) ∙ ap closed_at e)
 
     module _ (t b : ℕ) (token : t ≡ token_at line inner) (byte : b ≡ byte_at line t) where
-      pub closed-not : (b ≡ 41 → ⊥) → none ≡ closed_after line (entry_end inner)
+      pub closed-not : (b ≡ 41 → ⊥) → None ≡ closed_after line (entry_end inner)
       unfolding is_closer
-      closed-not h = after_is none (sign-off is_closer line inner t b token byte (ne_eqb b 41 h))
+      closed-not h = after_is None (sign-off is_closer line inner t b token byte (ne_eqb b 41 h))
 
-      pub closed-here : b ≡ 41 → some (record { low = t; top = t + 1 }) ≡ closed_after line (entry_end inner)
+      pub closed-here : b ≡ 41 → Some (record { low = t; top = t + 1 }) ≡ closed_after line (entry_end inner)
       unfolding is_closer
       closed-here h =
-          ap (λ (x : ℕ). some (record { low = t; top = x })) (add-one t)
-          ∙ after_is (some t) (sign-on is_closer line inner t b token byte (eq-eqb b 41 h))
+          ap (λ (x : ℕ). Some (record { low = t; top = x })) (add-one t)
+          ∙ after_is (Some t) (sign-on is_closer line inner t b token byte (eq-eqb b 41 h))
 
 -- ---- a term
 
@@ -64,14 +64,14 @@ module _ (line : List ℕ) (inner : Option ℕ) (c : ℕ) (reach : Reach) (known
   -- the term by the byte's three tests
   abbrev by : Bool → Bool → Bool → Option TermAt
   by d l o =
-      select d (some (record { low = c; top = run_end is_digit line c }))
-      (select l (some (record { low = c; top = run_end is_alnum line c }))
-      (select o (closed_after line inner) none))
+      select d (Some (record { low = c; top = run_end is_digit line c }))
+      (select l (Some (record { low = c; top = run_end is_alnum line c }))
+      (select o (closed_after line inner) None))
 
-  pub term-digit : c < reach.digits → some (record { low = c; top = reach.digits }) ≡ term_at line inner c
+  pub term-digit : c < reach.digits → Some (record { low = c; top = reach.digits }) ≡ term_at line inner c
   unfolding term_at
   term-digit h =
-      ap (λ (x : ℕ). some (record { low = c; top = x })) known.digits
+      ap (λ (x : ℕ). Some (record { low = c; top = x })) known.digits
       ∙ sym (ap (λ (d : Bool). by d (is_letter (byte_at line c)) (is_opener (byte_at line c))) (run-some digit line c (omega (arith, known.digits))))
 
   module _ (none_here : reach.digits ≤ c) where
@@ -82,9 +82,9 @@ module _ (line : List ℕ) (inner : Option ℕ) (c : ℕ) (reach : Reach) (known
     unfolding term_at
     by-letter = ap (λ (d : Bool). by d (is_letter (byte_at line c)) (is_opener (byte_at line c))) no_digit
 
-    pub term-letter : c < reach.names → some (record { low = c; top = reach.names }) ≡ term_at line inner c
+    pub term-letter : c < reach.names → Some (record { low = c; top = reach.names }) ≡ term_at line inner c
     term-letter h =
-        ap (λ (x : ℕ). some (record { low = c; top = x })) known.names
+        ap (λ (x : ℕ). Some (record { low = c; top = x })) known.names
         ∙ sym (by-letter ∙ ap (λ (l : Bool). by false l (is_opener (byte_at line c)))
         (alnum-letter (byte_at line c) (run-some alnum line c (omega (arith, known.names))) no_digit))
 
@@ -98,6 +98,6 @@ module _ (line : List ℕ) (inner : Option ℕ) (c : ℕ) (reach : Reach) (known
       unfolding is_opener
       term-opener m e = e ∙ sym (by-opener ∙ ap (λ (o : Bool). by false false o) (eq-eqb (byte_at line c) 40 m))
 
-      pub term-nothing : (byte_at line c ≡ 40 → ⊥) → none ≡ term_at line inner c
+      pub term-nothing : (byte_at line c ≡ 40 → ⊥) → None ≡ term_at line inner c
       unfolding is_opener
       term-nothing m = sym (by-opener ∙ ap (λ (o : Bool). by false false o) (ne_eqb (byte_at line c) 40 m))

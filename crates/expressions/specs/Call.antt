@@ -1,7 +1,6 @@
 -- The call that fills a sheet: which number, which fields and which sheet at the end, for any line and lent sheet.
 -- In words: docs/MANUAL.md, 2.3.
-use Rattle.std.specs.Prelude.{◌≡◌, true, false, List, ℕ, length}
-use Rattle.std.proofs.Math.Option.{none, some}
+use Rattle.std.specs.Prelude.{◌≡◌, true, false, List, ℕ, length, None, Some}
 use Rattle.plain.specs.Told.{Told, refused_at}
 use Rattle.line.specs.Line.{fault_at}
 use Rattle.extents.specs.Sheet.{sized, sheet_fits}
@@ -15,9 +14,9 @@ filled_with n b = record { number = 0; visits = 0; words = n; place = 0; buffer 
 
 -- Refusals: 3 for a bad line, then 18 if the lent sheet's length is wrong; unchanged in both. Else the sheet is the line's.
 pub data FillCall (line sheet : List ℕ) (r : Told) : Type 0 where
-  bad_line : (p : ℕ) → fault_at line ≡ some p → r ≡ refused_at 3 p sheet → FillCall line sheet r
-  bad_room : fault_at line ≡ none → sized sheet (length line) ≡ false → r ≡ refused_at 18 0 sheet → FillCall line sheet r
-  filled : (after : List ℕ) → fault_at line ≡ none → sized sheet (length line) ≡ true → SheetIs line after
+  bad_line : (p : ℕ) → fault_at line ≡ Some p → r ≡ refused_at 3 p sheet → FillCall line sheet r
+  bad_room : fault_at line ≡ None → sized sheet (length line) ≡ false → r ≡ refused_at 18 0 sheet → FillCall line sheet r
+  filled : (after : List ℕ) → fault_at line ≡ None → sized sheet (length line) ≡ true → SheetIs line after
       → r ≡ filled_with (length after) after → FillCall line sheet r
 
 -- a sheet that is filled passes document 01's check

@@ -1,7 +1,6 @@
 -- The ends of a start, computed. Each start is judged by its byte and by what is known of later starts, so none is judged
 -- by how deep it is nested. That the ends are the grammar's is proved in proofs/Rows.antt.
-use Rattle.std.specs.Prelude.{Bool, ◌||◌, List, ℕ, zero, suc, ◌-◌, min, ltb, length}
-use Rattle.std.proofs.Math.Option.{Option, none, some}
+use Rattle.std.specs.Prelude.{Bool, ◌||◌, List, ℕ, zero, suc, ◌-◌, min, ltb, length, Option, None, Some}
 use Rattle.plain.specs.Choice.{select}
 use Rattle.token.specs.Token.{is_whitespace}
 use Rattle.syntax.specs.Walker.{byte_at, useful_from}
@@ -14,7 +13,7 @@ token_at line c = useful_from line c (length line)
 
 -- where the token after m begins, if it begins with a byte of this kind
 unfoldable pub sign_at : (ℕ → Bool) → List ℕ → ℕ → Option ℕ
-sign_at kind line m = select (kind (byte_at line (token_at line m))) (some (token_at line m)) none
+sign_at kind line m = select (kind (byte_at line (token_at line m))) (Some (token_at line m)) None
 
 -- past the bytes of a kind that stand from c on, of which there are d at most
 unfoldable pub run_to : (ℕ → Bool) → List ℕ → ℕ → ℕ → ℕ
@@ -26,7 +25,7 @@ run_end kind line c = run_to kind line (length line - c) c
 
 -- the greatest within a limit of the ends low + 1 to top
 unfoldable pub up_to : ℕ → ℕ → ℕ → Option ℕ
-up_to low top l = select (ltb low (min top l)) (some (min top l)) none
+up_to low top l = select (ltb low (min top l)) (Some (min top l)) None
 
 -- What is known of a start: the greatest end of an expression within each limit; and the end of the expression with all its
 -- tokens whole, the only end that a closer may follow.
@@ -36,7 +35,7 @@ pub record Row : Type 0 where
 
 -- no end
 abbrev pub no_row : Row
-no_row = record { within = λ l. none; whole = none }
+no_row = record { within = λ l. None; whole = None }
 
 -- The ends of a term are low + 1 to top: more than one if its last token may be cut.
 pub record TermAt : Type 0 where
@@ -45,29 +44,29 @@ pub record TermAt : Type 0 where
 
 -- an expression in parentheses, whose closer stands here
 abbrev pub closed_at : Option ℕ → Option TermAt
-closed_at none = none
-closed_at (some p) = some (record { low = p; top = suc p })
+closed_at None = None
+closed_at (Some p) = Some (record { low = p; top = suc p })
 
 -- an expression in parentheses, which is whole here
 abbrev pub closed_after : List ℕ → Option ℕ → Option TermAt
-closed_after line none = none
-closed_after line (some m) = closed_at (sign_at is_closer line m)
+closed_after line None = None
+closed_after line (Some m) = closed_at (sign_at is_closer line m)
 
 -- the term at c, where neither whitespace nor a minus stands, if an expression from c + 1 is whole here
 unfoldable pub term_at : List ℕ → Option ℕ → ℕ → Option TermAt
 term_at line inner c =
-    select (is_digit (byte_at line c)) (some (record { low = c; top = run_end is_digit line c }))
-    (select (is_letter (byte_at line c)) (some (record { low = c; top = run_end is_alnum line c }))
-    (select (is_opener (byte_at line c)) (closed_after line inner) none))
+    select (is_digit (byte_at line c)) (Some (record { low = c; top = run_end is_digit line c }))
+    (select (is_letter (byte_at line c)) (Some (record { low = c; top = run_end is_alnum line c }))
+    (select (is_opener (byte_at line c)) (closed_after line inner) None))
 
 -- a term, and what an operator after it joins to it
 abbrev pub joined_at : (ℕ → Row) → TermAt → Option ℕ → Row
-joined_at later t none = record { within = up_to t.low t.top; whole = some t.top }
-joined_at later t (some p) = record { within = λ l. or_else ((later (suc p)).within l) (up_to t.low t.top l); whole = (later (suc p)).whole }
+joined_at later t None = record { within = up_to t.low t.top; whole = Some t.top }
+joined_at later t (Some p) = record { within = λ l. or_else ((later (suc p)).within l) (up_to t.low t.top l); whole = (later (suc p)).whole }
 
 abbrev pub term_row : List ℕ → (ℕ → Row) → Option TermAt → Row
-term_row line later none = no_row
-term_row line later (some t) = joined_at later t (sign_at is_operator line t.top)
+term_row line later None = no_row
+term_row line later (Some t) = joined_at later t (sign_at is_operator line t.top)
 
 -- whitespace and a minus change no end
 abbrev pub changes_none : ℕ → Bool

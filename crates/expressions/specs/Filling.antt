@@ -1,6 +1,5 @@
 -- What the code keeps while it fills a sheet. No sentence of document 02 speaks of it, and no promise of a public function.
-use Rattle.std.specs.Prelude.{◌≡◌, ◌⊎◌, Bool, true, false, List, ℕ, ◌+◌, ◌*◌, ◌≤◌, ◌<◌, length, get_or}
-use Rattle.std.proofs.Math.Option.{Option, none, some}
+use Rattle.std.specs.Prelude.{◌≡◌, ◌⊎◌, Bool, true, false, List, ℕ, ◌+◌, ◌*◌, ◌≤◌, ◌<◌, length, get_or, Option, None, Some}
 use Rattle.extents.specs.declared.Half.{Half}
 use Rattle.extents.specs.declared.Half.TheVariants.{Free, Greedy}
 use Rattle.extents.specs.Sheet.{sized, entry_at, entry_end}
@@ -19,8 +18,8 @@ pub record Lays (before after : List ℕ) (at from to : ℕ) (f : ℕ → ℕ) :
 
 -- an expression from c that a closer follows ends here, if anywhere; and an expression from c ends here
 pub record WholeIs (line : List ℕ) (c : ℕ) (o : Option ℕ) : Type 0 where
-  pub ends : (m : ℕ) → o ≡ some m → Expr line c m
-  pub only : (m p : ℕ) → Expr line c m → Begins is_closer line m p → o ≡ some m
+  pub ends : (m : ℕ) → o ≡ Some m → Expr line c m
+  pub only : (m p : ℕ) → Expr line c m → Begins is_closer line m p → o ≡ Some m
 
 -- a byte is kept for each start of the longest line, and from c on each says what it is kept for
 pub record Kept (line : List ℕ) (Says : ℕ → ℕ → Type 0) (bytes : List ℕ) (c : ℕ) : Type 0 where
@@ -37,7 +36,7 @@ Tokens line tokens c = Kept line (λ k b. b ≡ token_at line k) tokens c
 
 -- the token after an end, if there is one, is known
 abbrev pub Follows : List ℕ → List ℕ → Option ℕ → Type 0
-Follows line tokens o = (m : ℕ) → o ≡ some m → (m < length tokens) × (get_or tokens m 0 ≡ token_at line m)
+Follows line tokens o = (m : ℕ) → o ≡ Some m → (m < length tokens) × (get_or tokens m 0 ≡ token_at line m)
 
 -- how far digits, and letters and digits, reach from c
 pub record Reaches (line : List ℕ) (c : ℕ) (reach : Reach) : Type 0 where
@@ -86,5 +85,5 @@ pub record FreeLaid (line before after : List ℕ) (c whole : ℕ) : Type 0 wher
 
 -- a term's ends, as the code hands them on
 abbrev pub term_says : TermFound → Option TermAt
-term_says (Ends low top) = some (record { low = low; top = top })
-term_says Nothing = none
+term_says (Ends low top) = Some (record { low = low; top = top })
+term_says Nothing = None

@@ -1,6 +1,5 @@
 -- The sheet of a line: its free ends and its greedy ends, declared and computed.
-use Rattle.std.specs.Prelude.{◌≡◌, true, List, ℕ, ◌+◌, ◌-◌, ◌*◌, ◌/◌, ◌%◌, ◌≤◌, ◌<◌, ltb, length}
-use Rattle.std.proofs.Math.Option.{Option, none, some}
+use Rattle.std.specs.Prelude.{◌≡◌, true, List, ℕ, ◌+◌, ◌-◌, ◌*◌, ◌/◌, ◌%◌, ◌≤◌, ◌<◌, ltb, length, Option, None, Some}
 use Rattle.plain.specs.Choice.{select}
 use Rattle.plain.specs.Lists.{listed}
 use Rattle.extents.specs.declared.Half.{Half}
@@ -36,8 +35,8 @@ end_for line Greedy c l = greedy line c l
 
 -- an entry's byte: 255 for none
 abbrev pub byte_of : Option ℕ → ℕ
-byte_of none = 255
-byte_of (some e) = e
+byte_of None = 255
+byte_of (Some e) = e
 
 -- an entry
 unfoldable pub entry_for : List ℕ → Half → ℕ → ℕ → ℕ

@@ -4,7 +4,8 @@ use mathlib.Core.Path.{◌≡◌, refl, sym, ◌∙◌}
 use mathlib.Core.Logic.{⊎_elim}
 use mathlib.Core.Bool.{true, ◌&&◌}
 use mathlib.Core.List.{List}
-use mathlib.Core.Option.{some, none-ne-some}
+use Rattle.std.specs.Prelude.{Some}
+use Rattle.plain.proofs.Options.{none-ne-some}
 use Prim.Native.Nat.{ℕ, ◌+◌, ◌≤◌}
 use native.Mathlib.Omega.{arith}
 use borrow.Author.Tests.{leb-true}
@@ -19,7 +20,7 @@ use Rattle.extents.proofs.Reading.{in_order, read, unread}
 use Rattle.extents.proofs.Rows.{judged}
 
 -- the end of an entry that fits
-fits-between : (c l x e : ℕ) → entry_fits c l x ≡ true → entry_end x ≡ some e → (c ≤ e) × (e ≤ l)
+fits-between : (c l x e : ℕ) → entry_fits c l x ≡ true → entry_end x ≡ Some e → (c ≤ e) × (e ≤ l)
 unfolding entry_fits
 fits-between c l x e fits ends =
     ⊎_elim
@@ -47,7 +48,7 @@ module _ (sheet : List ℕ) (n : ℕ) (good : sheet_fits sheet n ≡ true) where
       ∙ every-at (n + 1) _ (every-at (n + 1) _ (each-half half) c (omega arith)) l (omega arith)
 
   -- an end of an accepted sheet is from its start to its limit
-  pub end-between : (half : Half) (c l e : ℕ) → end_in sheet n half c l ≡ some e → (c ≤ e) × (e ≤ l)
+  pub end-between : (half : Half) (c l e : ℕ) → end_in sheet n half c l ≡ Some e → (c ≤ e) × (e ≤ l)
   end-between half c l e ends =
       ⊎_elim
       (λ there.

@@ -3,7 +3,7 @@
 use mathlib.Core.Path.{◌≡◌}
 use mathlib.Core.Bool.{true, false, ◌&&◌}
 use mathlib.Core.List.{List}
-use mathlib.Core.Option.{none, some}
+use Rattle.std.specs.Prelude.{None, Some}
 use Prim.Native.Nat.{ℕ, ◌≤◌}
 use borrow.Author.Tests.{leb-true, eq-eqb, ne_eqb}
 use lib.Dec.{leb}
@@ -23,13 +23,13 @@ module _ (sheet : List ℕ) (n c l : ℕ) where
   unfolding end_in
   read half there = rw there
 
-  pub unread : (half : Half) → readable sheet n c l ≡ false → end_in sheet n half c l ≡ none
+  pub unread : (half : Half) → readable sheet n c l ≡ false → end_in sheet n half c l ≡ None
   unfolding end_in
   unread half nowhere = rw nowhere
 
 -- an entry's end, by what its byte is
-pub end_none : (e : ℕ) → e ≡ 255 → none ≡ entry_end e
+pub end_none : (e : ℕ) → e ≡ 255 → None ≡ entry_end e
 end_none e h = rw (eq-eqb e 255 h)
 
-pub end-some : (e : ℕ) → (e ≡ 255 → ⊥) → some e ≡ entry_end e
+pub end-some : (e : ℕ) → (e ≡ 255 → ⊥) → Some e ≡ entry_end e
 end-some e n = rw (ne_eqb e 255 n)

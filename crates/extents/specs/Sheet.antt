@@ -1,8 +1,7 @@
 -- The extent sheet of a line of n bytes: "2(n+1)² bytes: free ends, then greedy decimal ends. The entry for start c and
 -- limit l is at c(n+1)+l in its half: 255 for none, else from c to l." When a sheet is good, and the ends that it gives.
 -- In words: docs/MANUAL.md, 2.3.
-use Rattle.std.specs.Prelude.{◌≡◌, Bool, true, ◌&&◌, ◌||◌, List, ℕ, ◌+◌, ◌*◌, ◌≤◌, leb, ltb, eqb, length, get_or}
-use Rattle.std.proofs.Math.Option.{Option, none, some}
+use Rattle.std.specs.Prelude.{◌≡◌, Bool, true, ◌&&◌, ◌||◌, List, ℕ, ◌+◌, ◌*◌, ◌≤◌, leb, ltb, eqb, length, get_or, Option, None, Some}
 use Rattle.plain.specs.Choice.{select}
 use Rattle.plain.specs.Below.{every_below}
 use Rattle.extents.specs.declared.Half.{Half}
@@ -61,7 +60,7 @@ sheet_fits sheet n = sized sheet n && (half_fits sheet n Free && half_fits sheet
 
 -- an entry's end: 255 for none
 abbrev pub entry_end : ℕ → Option ℕ
-entry_end e = select (eqb e 255) none (some e)
+entry_end e = select (eqb e 255) None (Some e)
 
 -- there is an entry to read: the length is right, the start is not above the limit, and the limit lies in the line
 unfoldable pub readable : List ℕ → ℕ → ℕ → ℕ → Bool
@@ -69,7 +68,7 @@ readable sheet n c l = sized sheet n && (leb c l && leb l n)
 
 -- the end that a half has for start c and limit l
 unfoldable pub end_in : List ℕ → ℕ → Half → ℕ → ℕ → Option ℕ
-end_in sheet n half c l = select (readable sheet n c l) (entry_end (entry_at sheet n half c l)) none
+end_in sheet n half c l = select (readable sheet n c l) (entry_end (entry_at sheet n half c l)) None
 
 -- free(c, l)
 abbrev pub free_end : List ℕ → ℕ → ℕ → ℕ → Option ℕ
@@ -81,5 +80,5 @@ greedy_end sheet n c l = end_in sheet n Greedy c l
 
 -- the end that an answer names
 abbrev pub end_of : Extent → Option ℕ
-end_of (Ends e) = some e
-end_of Nothing = none
+end_of (Ends e) = Some e
+end_of Nothing = None

@@ -1,7 +1,7 @@
 -- A part within the limits: its word and its ruleset are small.
 use mathlib.Core.Path.{◌≡◌, refl, sym, ap, ◌∙◌}
 use mathlib.Core.Bool.{Bool, true, false, ◌&&◌}
-use mathlib.Core.Option.{Option, none, some}
+use Rattle.std.specs.Prelude.{Option, None, Some}
 use Prim.Native.Nat.{ℕ, ◌≤◌, ◌<◌}
 use native.Mathlib.Omega.{arith}
 use lib.Dec.{leb}
@@ -18,8 +18,8 @@ nested-low p r e h = omega (arith, ltb-true r 32 (ap (is_part_of 32) (sym e) ∙
 
 -- a part's word is small
 pub word_small : (s : ℕ) (o : Option Part) → s ≤ 32 → word_in s o < 65536
-word_small s none h = omega arith
-word_small s (some p) h = go (is_part_of s p) refl
+word_small s None h = omega arith
+word_small s (Some p) h = go (is_part_of s p) refl
   where
     low : (q : Part) → is_part_of s q ≡ true → word_of q < 65536
     low (Exact b) e = omega (arith, leb-true b 126 (and_right (leb 33 b) _ (and_left (leb 33 b && leb b 126) _ e)))

@@ -3,7 +3,7 @@ use mathlib.Core.Path.{◌≡◌, refl, sym, ap, ap₂, ◌∙◌}
 use mathlib.Core.Logic.{◌⊎◌, inl, inr}
 use mathlib.Core.Bool.{Bool, true, false, not, ◌&&◌, or-false}
 use mathlib.Core.List.{[], ◌∷◌, ◌++◌}
-use mathlib.Core.Option.{Option, none, some}
+use Rattle.std.specs.Prelude.{Option, None, Some}
 use Prim.Native.Nat.{ℕ, suc, ◌+◌, ◌*◌, ◌-◌, ◌/◌, ◌%◌, ◌≤◌, ◌<◌}
 use native.Mathlib.Decide.{dec_lt, dec_le}
 use native.Mathlib.Omega.{arith}
@@ -106,8 +106,8 @@ low-none : (x : Bytes) → ((n : ℕ) → n < 100 → x ≡ decimal n → ⊥) �
 low-none x h = go (number_of x) refl
   where
     go : (o : Option ℕ) → number_of x ≡ o → low_number o ≡ 100
-    go none e = refl
-    go (some n) e = elim (dec_lt n 100) [ yes l ↦ absurd (h n l (number_is x n e)) | no l ↦ omega (arith, l) ]
+    go None e = refl
+    go (Some n) e = elim (dec_lt n 100) [ yes l ↦ absurd (h n l (number_is x n e)) | no l ↦ omega (arith, l) ]
 
 low-some : (x : Bytes) (n : ℕ) → n < 100 → x ≡ decimal n → low_number (number_of x) ≡ n
 low-some x n h e = ap (λ (y : Bytes). low_number (number_of y)) e ∙ ap low_number (number-decimal n) ∙ omega arith
@@ -193,14 +193,14 @@ is-exact : (b : ℕ) → b < 256 → is_part 0 b ≡ (leb 33 b && leb b 126 && n
 unfolding is_part
 is-exact b h = rw (is_part, ne_eqb b 256 (λ e. omega arith), ne_eqb b 257 (λ e. omega arith), lt-leb 512 b (omega arith)) (simp or-false)
 
-pub exact-yes : (b : ℕ) → b < 256 → is_part 0 b ≡ true → b ≡ word_in 0 (some (Exact b))
+pub exact-yes : (b : ℕ) → b < 256 → is_part 0 b ≡ true → b ≡ word_in 0 (Some (Exact b))
 exact-yes b h e = sym (ap (λ (x : Bool). select x b 0) (sym (is-exact b h) ∙ e))
 
-pub exact-no : (b : ℕ) → b < 256 → is_part 0 b ≡ false → 0 ≡ word_in 0 (some (Exact b))
+pub exact-no : (b : ℕ) → b < 256 → is_part 0 b ≡ false → 0 ≡ word_in 0 (Some (Exact b))
 exact-no b h e = sym (ap (λ (x : Bool). select x b 0) (sym (is-exact b h) ∙ e))
 
 module _ (s : ℕ) where
-  pub word-exact : (x : Bytes) (b : ℕ) → x ≡ b ∷ [] → word_in 0 (some (Exact b)) ≡ word_in s (part_in x)
+  pub word-exact : (x : Bytes) (b : ℕ) → x ≡ b ∷ [] → word_in 0 (Some (Exact b)) ≡ word_in s (part_in x)
   word-exact x b e = sym (ap (λ (y : Bytes). word_in s (part_in y)) e ∙ ap (word_in s) (part-read (Exact b)))
 
   pub word-ws : (x : Bytes) → same x ws_word ≡ true → 256 ≡ word_in s (part_in x)
@@ -222,7 +222,7 @@ module _ (s : ℕ) where
       none_of (b ∷ (c ∷ [])) n l = refl
       none_of (b ∷ (c ∷ (e ∷ y))) n l = absurd (omega arith)
 
-  split : (y z : Bytes) → length y ≡ 3 → other_part (y ++ z) ≡ select (same y sub_word) (nested_in (number_of z)) none
+  split : (y z : Bytes) → length y ≡ 3 → other_part (y ++ z) ≡ select (same y sub_word) (nested_in (number_of z)) None
   split [] z h = absurd (omega arith)
   split (b ∷ []) z h = absurd (omega arith)
   split (b ∷ (c ∷ [])) z h = absurd (omega arith)
@@ -231,21 +231,21 @@ module _ (s : ℕ) where
 
   -- a field of three bytes or more, cut after the third
   module _ (x y z : Bytes) (is : x ≡ y ++ z) (three : length y ≡ 3) (p : same x ws_word ≡ false) (q : same x expr_word ≡ false) where
-    field : part_in x ≡ select (same y sub_word) (nested_in (number_of z)) none
+    field : part_in x ≡ select (same y sub_word) (nested_in (number_of z)) None
     field = other-is x p q ∙ ap other_part is ∙ split y z three
 
     pub word-other : same y sub_word ≡ false → 0 ≡ word_in s (part_in x)
-    word-other h = sym (ap (word_in s) (field ∙ ap (λ (b : Bool). select b (nested_in (number_of z)) none) h))
+    word-other h = sym (ap (word_in s) (field ∙ ap (λ (b : Bool). select b (nested_in (number_of z)) None) h))
 
     nested : same y sub_word ≡ true → part_in x ≡ nested_in (number_of z)
-    nested h = field ∙ ap (λ (b : Bool). select b (nested_in (number_of z)) none) h
+    nested h = field ∙ ap (λ (b : Bool). select b (nested_in (number_of z)) None) h
 
     pub word-sub : same y sub_word ≡ true → (n : ℕ) → n ≡ low_number (number_of z) → s ≤ 32 → n < s → 512 + n ≡ word_in s (part_in x)
     word-sub h n e small l = sym (ap (word_in s) (nested h) ∙ go (number_of z) (sym e))
       where
         go : (o : Option ℕ) → low_number o ≡ n → word_in s (nested_in o) ≡ 512 + n
-        go none k = absurd (omega arith)
-        go (some m) k =
+        go None k = absurd (omega arith)
+        go (Some m) k =
             let is' : m ≡ n = omega arith in
             ap (λ (b : Bool). select b (512 + m) 0) (lt-ltb m s (omega arith)) ∙ ap (λ (j : ℕ). 512 + j) is'
 
@@ -253,8 +253,8 @@ module _ (s : ℕ) where
     word-past h n e small l = sym (ap (word_in s) (nested h) ∙ go (number_of z) (sym e))
       where
         go : (o : Option ℕ) → low_number o ≡ n → word_in s (nested_in o) ≡ 0
-        go none k = refl
-        go (some m) k = ap (λ (b : Bool). select b (512 + m) 0) (le-ltb m s (omega arith))
+        go None k = refl
+        go (Some m) k = ap (λ (b : Bool). select b (512 + m) 0) (le-ltb m s (omega arith))
 
 pub slice_cut : (t : Bytes) (at mid end : ℕ) → at ≤ mid → mid ≤ end → end ≤ length t → slice at end t ≡ slice at mid t ++ slice mid end t
 slice_cut t at mid end h k l =

@@ -1,6 +1,5 @@
 -- What a listing's fields say: where a byte stands, low numbers, the words of parts.
-use Rattle.std.specs.Prelude.{◌≡◌, true, ◌&&◌, ℕ, ◌-◌, ◌≤◌, ◌<◌, min, leb, get_or}
-use Rattle.std.proofs.Math.Option.{Option, none, some}
+use Rattle.std.specs.Prelude.{◌≡◌, true, ◌&&◌, ℕ, ◌-◌, ◌≤◌, ◌<◌, min, leb, get_or, Option, None, Some}
 use Rattle.std.proofs.Math.Seq.{slice}
 use Rattle.plain.specs.Choice.{select}
 use Rattle.defs.specs.declared.ruledef.Part.{Part}
@@ -18,8 +17,8 @@ pub record Found (text : Bytes) (at end byte r : ℕ) : Type 0 where
 
 -- a number below 100, else 100
 abbrev pub low_number : Option ℕ → ℕ
-low_number none = 100
-low_number (some n) = min n 100
+low_number None = 100
+low_number (Some n) = min n 100
 
 -- a digit's value, else 100
 unfoldable pub digit_of : ℕ → ℕ
@@ -27,8 +26,8 @@ digit_of b = select (leb 48 b && leb b 57) (b - 48) 100
 
 -- the word of a part within the limits, else 0
 abbrev pub word_in : ℕ → Option Part → ℕ
-word_in s none = 0
-word_in s (some p) = select (is_part_of s p) (word_of p) 0
+word_in s None = 0
+word_in s (Some p) = select (is_part_of s p) (word_of p) 0
 
 -- the word that a field says
 abbrev pub said_word : ℕ → Bytes → ℕ

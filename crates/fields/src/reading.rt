@@ -1,6 +1,5 @@
 // What the fields of a listing's lines say.
-ghost use Rattle.std.specs.Prelude.{◌≡◌, ◌≤◌, length};
-ghost use Rattle.std.proofs.Math.Option.{some};
+ghost use Rattle.std.specs.Prelude.{◌≡◌, ◌≤◌, length, Some};
 ghost use Rattle.std.proofs.Math.Seq.{slice};
 ghost use Rattle.defs.specs.declared.ruledef.Part.TheVariants.{Exact};
 ghost use Rattle.printing.specs.Reading.{same, number_of, part_in};
@@ -94,7 +93,7 @@ pub fn number(text: &[u8], at: usize, end: usize) -> usize
 
 // The word of an exact part; 0 if the byte is none. A byte is one if it is a part of a table that has no rulesets.
 fn exact(byte: u8) -> usize
-    ensures answers { result ≡ word_in 0 (some (Exact byte)) }
+    ensures answers { result ≡ word_in 0 (Some (Exact byte)) }
 {
     let word = byte as usize;
     if acceptance::is_part(word, 0) {

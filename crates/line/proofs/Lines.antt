@@ -4,7 +4,8 @@ use mathlib.Core.Path.{◌≡◌, refl, sym, ap, ◌∙◌}
 use mathlib.Core.Logic.{◌↔◌}
 use mathlib.Core.Bool.{Bool, true, false, not, ◌&&◌, ◌||◌}
 use mathlib.Core.List.{List, [], ◌∷◌}
-use mathlib.Core.Option.{Option, none, some, some-ne-none}
+use Rattle.std.specs.Prelude.{Option, None, Some}
+use Rattle.plain.proofs.Options.{some-ne-none}
 use Prim.Native.Nat.{ℕ, zero, suc, ◌+◌, ◌-◌, ◌≤◌, ◌<◌}
 use native.Mathlib.Numerals.{add-one}
 use native.Mathlib.Decide.{dec_lt}
@@ -68,105 +69,105 @@ module _ (b : ℕ) where
 abbrev pub bad_from : List ℕ → ℕ → Option ℕ
 bad_from line i = first_bad (drop i line) i
 
-none-bad : (bs : List ℕ) (i : ℕ) → ((k : ℕ) → k < length bs → is_allowed (get_or bs k 0) ≡ true) → first_bad bs i ≡ none
+none-bad : (bs : List ℕ) (i : ℕ) → ((k : ℕ) → k < length bs → is_allowed (get_or bs k 0) ≡ true) → first_bad bs i ≡ None
 unfolding first_bad
 none-bad [] i h = refl
 none-bad (b ∷ bs) i h =
-    ap (λ (t : Bool). select t (first_bad bs (suc i)) (some i)) (h 0 (omega arith)) ∙ none-bad bs (suc i) (λ k l. h (suc k) (omega arith))
+    ap (λ (t : Bool). select t (first_bad bs (suc i)) (Some i)) (h 0 (omega arith)) ∙ none-bad bs (suc i) (λ k l. h (suc k) (omega arith))
 
 module _ (line : List ℕ) where
-  unrolled : (i : ℕ) → i < length line → bad_from line i ≡ select (is_allowed (byte_at line i)) (bad_from line (suc i)) (some i)
+  unrolled : (i : ℕ) → i < length line → bad_from line i ≡ select (is_allowed (byte_at line i)) (bad_from line (suc i)) (Some i)
   unfolding first_bad
   unrolled i h = ap (λ (bs : List ℕ). first_bad bs i) (drop-cons line i 0 h)
 
-  pub bad-here : (i : ℕ) → i < length line → is_allowed (byte_at line i) ≡ false → bad_from line i ≡ some i
-  bad-here i h e = unrolled i h ∙ ap (λ (b : Bool). select b (bad_from line (suc i)) (some i)) e
+  pub bad-here : (i : ℕ) → i < length line → is_allowed (byte_at line i) ≡ false → bad_from line i ≡ Some i
+  bad-here i h e = unrolled i h ∙ ap (λ (b : Bool). select b (bad_from line (suc i)) (Some i)) e
 
   pub bad-later : (i : ℕ) → i < length line → is_allowed (byte_at line i) ≡ true → bad_from line (i + 1) ≡ bad_from line i
   bad-later i h e =
-      ap (bad_from line) (add-one i) ∙ sym (unrolled i h ∙ ap (λ (b : Bool). select b (bad_from line (suc i)) (some i)) e)
+      ap (bad_from line) (add-one i) ∙ sym (unrolled i h ∙ ap (λ (b : Bool). select b (bad_from line (suc i)) (Some i)) e)
 
   -- past the last byte, with none bad
-  pub bad-none : (i : ℕ) → i ≤ length line → length line ≤ i → bad_from line i ≡ bad_from line 0 → bad_from line 0 ≡ none
+  pub bad-none : (i : ℕ) → i ≤ length line → length line ≤ i → bad_from line i ≡ bad_from line 0 → bad_from line 0 ≡ None
   unfolding first_bad
   bad-none i within past passed =
       let end : i ≡ length line = omega arith in
       sym passed ∙ ap (bad_from line) end ∙ ap (λ (bs : List ℕ). first_bad bs (length line)) (drop-length line)
 
   -- all bytes are allowed
-  pub bad-nowhere : AllowedBetween line 0 (length line) → bad_from line 0 ≡ none
+  pub bad-nowhere : AllowedBetween line 0 (length line) → bad_from line 0 ≡ None
   bad-nowhere all = none-bad line 0 (λ k below. all.each k (omega arith) below)
 
 -- ---- number and place, as the code finds them
 
 pub verdict-long : (line : List ℕ) → 120 < length line → (3, 120) ≡ line_verdict line
 unfolding fault_at
-verdict-long line h = sym (ap (λ (t : Bool). numbered (select t (some 120) (or_else (first_bad line 0) (select (ends_open line) (some (length line - 1)) none)))) (lt-ltb 120 (length line) h))
+verdict-long line h = sym (ap (λ (t : Bool). numbered (select t (Some 120) (or_else (first_bad line 0) (select (ends_open line) (Some (length line - 1)) None)))) (lt-ltb 120 (length line) h))
 
 module _ (line : List ℕ) (short : length line ≤ 120) where
-  settled : (o : Option ℕ) (t : Bool) → bad_from line 0 ≡ o → ends_open line ≡ t → numbered (or_else o (select t (some (length line - 1)) none)) ≡ line_verdict line
+  settled : (o : Option ℕ) (t : Bool) → bad_from line 0 ≡ o → ends_open line ≡ t → numbered (or_else o (select t (Some (length line - 1)) None)) ≡ line_verdict line
   unfolding fault_at
   settled o t p q =
       sym
-      (ap (λ (s : Bool). numbered (select s (some 120) (or_else (first_bad line 0) (select (ends_open line) (some (length line - 1)) none)))) (le-ltb 120 (length line) short)
-      ∙ ap (λ (m : Option ℕ). numbered (or_else m (select (ends_open line) (some (length line - 1)) none))) p
-      ∙ ap (λ (s : Bool). numbered (or_else o (select s (some (length line - 1)) none))) q)
+      (ap (λ (s : Bool). numbered (select s (Some 120) (or_else (first_bad line 0) (select (ends_open line) (Some (length line - 1)) None)))) (le-ltb 120 (length line) short)
+      ∙ ap (λ (m : Option ℕ). numbered (or_else m (select (ends_open line) (Some (length line - 1)) None))) p
+      ∙ ap (λ (s : Bool). numbered (or_else o (select s (Some (length line - 1)) None))) q)
 
-  pub verdict-byte : (i : ℕ) → bad_from line 0 ≡ some i → (3, i) ≡ line_verdict line
-  verdict-byte i p = settled (some i) (ends_open line) p refl
+  pub verdict-byte : (i : ℕ) → bad_from line 0 ≡ Some i → (3, i) ≡ line_verdict line
+  verdict-byte i p = settled (Some i) (ends_open line) p refl
 
   -- with no bad byte
-  module _ (clean : bad_from line 0 ≡ none) where
+  module _ (clean : bad_from line 0 ≡ None) where
     ends : (t : Bool) → 0 < length line → is_whitespace (byte_at line (length line - 1)) ≡ t → ends_open line ≡ t
     unfolding ends_open
     ends t h e = ap (λ (s : Bool). s && is_whitespace (byte_at line (length line - 1))) (lt-ltb 0 (length line) h) ∙ e
 
     pub verdict-end : 0 < length line → is_whitespace (byte_at line (length line - 1)) ≡ true → (3, length line - 1) ≡ line_verdict line
-    verdict-end h e = settled none true clean (ends true h e)
+    verdict-end h e = settled None true clean (ends true h e)
 
     pub verdict-good : 0 < length line → is_whitespace (byte_at line (length line - 1)) ≡ false → (0, 0) ≡ line_verdict line
-    verdict-good h e = settled none false clean (ends false h e)
+    verdict-good h e = settled None false clean (ends false h e)
 
     pub verdict-empty : length line ≤ 0 → (0, 0) ≡ line_verdict line
     unfolding ends_open
     verdict-empty h =
-        settled none false clean (ap (λ (t : Bool). t && is_whitespace (byte_at line (length line - 1))) (le-ltb 0 (length line) h))
+        settled None false clean (ap (λ (t : Bool). t && is_whitespace (byte_at line (length line - 1))) (le-ltb 0 (length line) h))
 
 -- ---- no fault exactly if the line is good
 
-all-allowed : (bs : List ℕ) (i : ℕ) → first_bad bs i ≡ none → (k : ℕ) → k < length bs → is_allowed (get_or bs k 0) ≡ true
+all-allowed : (bs : List ℕ) (i : ℕ) → first_bad bs i ≡ None → (k : ℕ) → k < length bs → is_allowed (get_or bs k 0) ≡ true
 unfolding first_bad
 all-allowed [] i e k h = absurd (omega arith)
 all-allowed (b ∷ bs) i e k h = go (is_allowed b) refl e k h (all-allowed bs (suc i))
   where
-    go : (t : Bool) → is_allowed b ≡ t → select t (first_bad bs (suc i)) (some i) ≡ none → (k : ℕ) → k < suc (length bs)
-        → (first_bad bs (suc i) ≡ none → (j : ℕ) → j < length bs → is_allowed (get_or bs j 0) ≡ true) → is_allowed (get_or (b ∷ bs) k 0) ≡ true
+    go : (t : Bool) → is_allowed b ≡ t → select t (first_bad bs (suc i)) (Some i) ≡ None → (k : ℕ) → k < suc (length bs)
+        → (first_bad bs (suc i) ≡ None → (j : ℕ) → j < length bs → is_allowed (get_or bs j 0) ≡ true) → is_allowed (get_or (b ∷ bs) k 0) ≡ true
     go true p q zero l ih = p
     go true p q (suc j) l ih = ih q j (omega arith)
     go false p q m l ih = absurd (some-ne-none i q)
 
-pub good-is : (line : List ℕ) → (fault_at line ≡ none) ↔ GoodLine line
+pub good-is : (line : List ℕ) → (fault_at line ≡ None) ↔ GoodLine line
 unfolding fault_at ends_open
 good-is line = (forth (ltb 120 (length line)) (first_bad line 0) (ltb 0 (length line)) (is_whitespace (byte_at line (length line - 1))) refl refl refl refl, back)
   where
     forth : (l : Bool) (o : Option ℕ) (m w : Bool)
         → ltb 120 (length line) ≡ l → first_bad line 0 ≡ o → ltb 0 (length line) ≡ m → is_whitespace (byte_at line (length line - 1)) ≡ w
-        → select l (some 120) (or_else o (select (m && w) (some (length line - 1)) none)) ≡ none → GoodLine line
+        → select l (Some 120) (or_else o (select (m && w) (Some (length line - 1)) None)) ≡ None → GoodLine line
     forth true o m w p q r s e = absurd (some-ne-none 120 e)
-    forth false (some i) m w p q r s e = absurd (some-ne-none i e)
-    forth false none true true p q r s e = absurd (some-ne-none (length line - 1) e)
-    forth false none true false p q r s e = record { short = ltb-false 120 (length line) p; bytes = all-allowed line 0 q; last = λ h. s }
-    forth false none false w p q r s e = record {
+    forth false (Some i) m w p q r s e = absurd (some-ne-none i e)
+    forth false None true true p q r s e = absurd (some-ne-none (length line - 1) e)
+    forth false None true false p q r s e = record { short = ltb-false 120 (length line) p; bytes = all-allowed line 0 q; last = λ h. s }
+    forth false None false w p q r s e = record {
       short = ltb-false 120 (length line) p;
       bytes = all-allowed line 0 q;
       last = λ h. absurd (omega (arith, ltb-false 0 (length line) r));
     }
 
-    back : GoodLine line → fault_at line ≡ none
+    back : GoodLine line → fault_at line ≡ None
     back g = faultless (first_bad line 0) (ltb 0 (length line)) (none-bad line 0 g.bytes) refl
       where
-        faultless : (o : Option ℕ) (m : Bool) → o ≡ none → ltb 0 (length line) ≡ m
-            → select (ltb 120 (length line)) (some 120) (or_else o (select (m && is_whitespace (byte_at line (length line - 1))) (some (length line - 1)) none)) ≡ none
-        faultless (some i) m p q = absurd (some-ne-none i p)
-        faultless none true p q = rw (le-ltb 120 (length line) g.short, g.last (ltb-true 0 (length line) q))
-        faultless none false p q = rw (le-ltb 120 (length line) g.short)
+        faultless : (o : Option ℕ) (m : Bool) → o ≡ None → ltb 0 (length line) ≡ m
+            → select (ltb 120 (length line)) (Some 120) (or_else o (select (m && is_whitespace (byte_at line (length line - 1))) (Some (length line - 1)) None)) ≡ None
+        faultless (Some i) m p q = absurd (some-ne-none i p)
+        faultless None true p q = rw (le-ltb 120 (length line) g.short, g.last (ltb-true 0 (length line) q))
+        faultless None false p q = rw (le-ltb 120 (length line) g.short)

@@ -2,8 +2,7 @@
 // makes its lines is not in the published text.
 #![tactic(auto)]
 
-ghost use Rattle.std.specs.Prelude.{◌≡◌, true, false, ◌+◌, ◌≤◌, ◌<◌, length};
-ghost use Rattle.std.proofs.Math.Option.{none, some};
+ghost use Rattle.std.specs.Prelude.{◌≡◌, true, false, ◌+◌, ◌≤◌, ◌<◌, length, None, Some};
 ghost use Rattle.token.specs.Token.{is_whitespace};
 ghost use Rattle.line.specs.Line.{is_allowed, AllowedBetween, first_bad, line_says, line_verdict};
 
@@ -94,8 +93,8 @@ fn is_plain(line: &[u8]) -> bool
 // The place of the first byte that a line may not hold, or the line's length. Most lines are plain; one that is not, by a tab
 // or a carriage return as much as by a bad byte, is looked at byte by byte.
 fn first_bad(line: &[u8]) -> usize
-    ensures found { result < length line.now → first_bad line.now 0 ≡ some result }
-    ensures clean { length line.now ≤ result → first_bad line.now 0 ≡ none }
+    ensures found { result < length line.now → first_bad line.now 0 ≡ Some result }
+    ensures clean { length line.now ≤ result → first_bad line.now 0 ≡ None }
 {
     if is_plain(line) {
         return line.len();

@@ -4,7 +4,7 @@ use mathlib.Core.Path.{◌≡◌, refl, sym, ap, ap₂, ◌∙◌, subst}
 use mathlib.Core.Logic.{⊎_elim}
 use mathlib.Core.Bool.{true}
 use mathlib.Core.List.{List}
-use mathlib.Core.Option.{none}
+use Rattle.std.specs.Prelude.{None}
 use Prim.Native.Nat.{ℕ}
 use native.Mathlib.Omega.{arith}
 use lib.ListN.{length}
@@ -43,7 +43,7 @@ module _ (order : Scene → List (ℕ × ℕ)) (t line sheet : List ℕ) (budget
   never-four e = not-four ((exactly order t line sheet budget base b 4).0 e)
 
 -- demand 3 over the readings of the line, from what is promised on its sheet
-module _ (t line sheet : List ℕ) (good : fault_at line ≡ none) (is : sheet ≡ sheet_of line) (fits : sheet_fits sheet (length line) ≡ true) where
+module _ (t line sheet : List ℕ) (good : fault_at line ≡ None) (is : sheet ≡ sheet_of line) (fits : sheet_fits sheet (length line) ≡ true) where
   pub reads-alone : (budget base : ℕ) (b : List ℕ) (told : Told) → (Accepted t line sheet budget base → Within t line sheet budget → Demand3 (based base (scene_of t line sheet)) b told)
       → table_fits t ≡ true → budget_fits budget ≡ true → base_fits base ≡ true → Within t line sheet budget → Demand3 (based base (line_scene t line)) b told
   reads-alone budget base b told promise table-good budget-good base-good within =
@@ -59,7 +59,7 @@ module _ (κs a : _) (n : ℕ) (x : _) (fill : fill-sheet.Post κs a (Filled n) 
   abbrev sheet : List ℕ
   sheet = x.1.0.now
 
-  good : fault_at line ≡ none
+  good : fault_at line ≡ None
   good = filled-good line a.1.0.now (filled_with n sheet) fill.0 refl
 
   is : sheet ≡ sheet_of line
@@ -70,7 +70,7 @@ module _ (κs a : _) (n : ℕ) (x : _) (fill : fill-sheet.Post κs a (Filled n) 
 
   -- a call on that line and that sheet
   module _ (there on : List ℕ) (same_line : there ≡ line) (same-sheet : on ≡ sheet) where
-    there-good : fault_at there ≡ none
+    there-good : fault_at there ≡ None
     there-good = ap fault_at same_line ∙ good
 
     there-is : on ≡ sheet_of there

@@ -4,7 +4,7 @@ use mathlib.Core.Path.{◌≡◌, sym, ap, ◌∙◌, subst}
 use mathlib.Core.Logic.{◌↔◌}
 use mathlib.Core.Bool.{Bool}
 use mathlib.Core.List.{List, []}
-use mathlib.Core.Option.{none}
+use Rattle.std.specs.Prelude.{None}
 use Prim.Native.Nat.{ℕ, ◌≤◌, ◌<◌}
 use native.Mathlib.Decide.{dec_lt}
 use native.Mathlib.Omega.{arith}
@@ -32,15 +32,15 @@ use Rattle.line_readings.specs.LineReading.{end_within, line_scene, LineReading}
 module _ (line : List ℕ) (half : Half) (c l : ℕ) where
   in-line : l ≤ length line → end_within line half c l ≡ end_for line half c l
   unfolding end_within
-  in-line h = ap (λ (b : Bool). select b (end_for line half c l) none) (le-leb l (length line) h)
+  in-line h = ap (λ (b : Bool). select b (end_for line half c l) None) (le-leb l (length line) h)
 
   -- the end that a scene of the line gives is the greatest that the grammar allows, and it gives none only if there is none
   pub end-declared : l ≤ length line → Greatest (EndIn half line c) l (end_within line half c l)
   end-declared h = subst (Greatest (EndIn half line c) l) (sym (in-line h)) (end_is line half c l)
 
   -- none lies below its start
-  below : l < c → end_for line half c l ≡ none
-  below h = greatest-one (EndIn half line c) l (end_for line half c l) none (end_is line half c l) (λ e x w. omega (arith, end-span line half x))
+  below : l < c → end_for line half c l ≡ None
+  below h = greatest-one (EndIn half line c) l (end_for line half c l) None (end_is line half c l) (λ e x w. omega (arith, end-span line half x))
 
   -- the filled sheet gives the same
   pub sheet-end : length line ≤ 120 → end_in (sheet_of line) (length line) half c l ≡ end_within line half c l
@@ -48,7 +48,7 @@ module _ (line : List ℕ) (half : Half) (c l : ℕ) where
   sheet-end short =
       elim (dec_lt (length line) l) [
         | yes past ↦ unread (sheet_of line) (length line) c l half (and-false-right (sized (sheet_of line) (length line)) _ (and-false-right (leb c l) _ (lt-leb l (length line) past)))
-            ∙ sym (ap (λ (b : Bool). select b (end_for line half c l) none) (lt-leb l (length line) past))
+            ∙ sym (ap (λ (b : Bool). select b (end_for line half c l) None) (lt-leb l (length line) past))
         | no within ↦ elim (dec_lt l c) [
           | yes above ↦ unread (sheet_of line) (length line) c l half (and-false-right (sized (sheet_of line) (length line)) _ (and-false-left _ _ (lt-leb c l above)))
               ∙ sym (in-line (omega (arith, within)) ∙ below above)

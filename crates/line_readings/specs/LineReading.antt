@@ -1,8 +1,7 @@
 -- What a reading of a line is: a reading with the grammar in place of a sheet. An expression part asks for the greatest end
 -- within a limit of an expression, or of digits, that begins at the cursor; every limit is a place of the line. A scene has
 -- functions, so these ends are computed; that they are the grammar's is the law `end-declared`.
-use Rattle.std.specs.Prelude.{List, [], ℕ, leb, length, get_or}
-use Rattle.std.proofs.Math.Option.{Option, none}
+use Rattle.std.specs.Prelude.{List, [], ℕ, leb, length, get_or, Option, None}
 use Rattle.plain.specs.Choice.{select}
 use Rattle.plain.specs.Lists.{range, keep_if}
 use Rattle.syntax.specs.Cut.{CutAt, cut}
@@ -17,7 +16,7 @@ use Rattle.readings.specs.Reading.{Reading}
 
 -- the end that the grammar gives, under a limit in the line
 unfoldable pub end_within : List ℕ → Half → ℕ → ℕ → Option ℕ
-end_within line half c l = select (leb l (length line)) (end_for line half c l) none
+end_within line half c l = select (leb l (length line)) (end_for line half c l) None
 
 -- the scene of a packed table and a line that stands alone, at base 0
 unfoldable pub line_scene : List ℕ → List ℕ → Scene

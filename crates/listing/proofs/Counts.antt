@@ -3,7 +3,7 @@ use mathlib.Core.Path.{◌≡◌, refl, sym, ap, ap₂, ◌∙◌, subst}
 use mathlib.Core.Logic.{◌⊎◌, inl, inr}
 use mathlib.Core.Bool.{Bool, true, false, ◌&&◌}
 use mathlib.Core.List.{List, [], ◌∷◌, ◌++◌}
-use mathlib.Core.Option.{Option, none, some}
+use Rattle.std.specs.Prelude.{Option, None, Some}
 use Prim.Native.Nat.{ℕ, suc, ◌+◌, ◌≤◌, ◌<◌}
 use native.Mathlib.Decide.{dec_lt, dec_le}
 use native.Mathlib.Omega.{arith}
@@ -132,14 +132,14 @@ more-rule ts xs r h =
 
 -- a word is a part's within the limits, or 0
 data Word (s : ℕ) (o : Option Part) : ℕ → Type 0 where
-  no_word : ((p : Part) → o ≡ some p → is_part_of s p ≡ true → ⊥) → Word s o 0
-  a_word : (p : Part) → o ≡ some p → is_part_of s p ≡ true → (word_of p ≡ 0 → ⊥) → ltb 256 (word_of p) ≡ is_parameter p → Word s o (word_of p)
+  no_word : ((p : Part) → o ≡ Some p → is_part_of s p ≡ true → ⊥) → Word s o 0
+  a_word : (p : Part) → o ≡ Some p → is_part_of s p ≡ true → (word_of p ≡ 0 → ⊥) → ltb 256 (word_of p) ≡ is_parameter p → Word s o (word_of p)
 
 word-of : (s : ℕ) (o : Option Part) → Word s o (word_in s o)
-word-of s none = no_word (λ p e h. let z : ◌≡◌ {A = ℕ} 0 1 = cc in omega arith)
-word-of s (some p) = go (is_part_of s p) refl
+word-of s None = no_word (λ p e h. let z : ◌≡◌ {A = ℕ} 0 1 = cc in omega arith)
+word-of s (Some p) = go (is_part_of s p) refl
   where
-    some_is : (q : Part) → some p ≡ some q → p ≡ q
+    some_is : (q : Part) → Some p ≡ Some q → p ≡ q
     some_is q e = cc
 
     large : (q : Part) → is_part_of s q ≡ true → (word_of q ≡ 0 → ⊥) × (ltb 256 (word_of q) ≡ is_parameter q)
@@ -152,28 +152,28 @@ word-of s (some p) = go (is_part_of s p) refl
     large Expression h = ((λ e. omega arith), refl)
     large (Nested r) h = ((λ e. omega arith), lt-ltb 256 (512 + r) (omega arith))
 
-    go : (b : Bool) → is_part_of s p ≡ b → Word s (some p) (select b (word_of p) 0)
+    go : (b : Bool) → is_part_of s p ≡ b → Word s (Some p) (select b (word_of p) 0)
     go true e = a_word p refl e (large p e).0 (large p e).1
     go false e = no_word (λ q k h. not-both (ap (is_part_of s) (some_is q k) ∙ h) e)
 
 -- the parts that fields say, within the limits for one rule
 pub record Said (s k p : ℕ) (fs : List Bytes) (n : ℕ) : Type 0 where
   pub all : List Part
-  pub is : parts_in fs ≡ some all
+  pub is : parts_in fs ≡ Some all
   pub each : every (is_part_of s) all ≡ true
   pub short : k + length all ≤ 64
   pub few : p + count is_parameter all ≤ 8
   pub size : n ≡ k + length all
 
 abbrev pub Unsaid : ℕ → ℕ → ℕ → List Bytes → ℕ → Type 0
-Unsaid s k p fs n = (n ≡ 65) × ((ps : List Part) → parts_in fs ≡ some ps → every (is_part_of s) ps ≡ true → k + length ps ≤ 64 → p + count is_parameter ps ≤ 8 → ⊥)
+Unsaid s k p fs n = (n ≡ 65) × ((ps : List Part) → parts_in fs ≡ Some ps → every (is_part_of s) ps ≡ true → k + length ps ≤ 64 → p + count is_parameter ps ≤ 8 → ⊥)
 
-both-head : (o : Option Part) (os : Option (List Part)) (ps : List Part) → both ◌∷◌ o os ≡ some ps → (q : Part) × (qs : List Part) × (o ≡ some q) × (os ≡ some qs) × (ps ≡ q ∷ qs)
-both-head none os ps h = let z : ◌≡◌ {A = ℕ} 0 1 = cc in absurd (omega arith)
-both-head (some q) none ps h = let z : ◌≡◌ {A = ℕ} 0 1 = cc in absurd (omega arith)
-both-head (some q) (some qs) ps h = (q, qs, refl, refl, cc)
+both-head : (o : Option Part) (os : Option (List Part)) (ps : List Part) → both ◌∷◌ o os ≡ Some ps → (q : Part) × (qs : List Part) × (o ≡ Some q) × (os ≡ Some qs) × (ps ≡ q ∷ qs)
+both-head None os ps h = let z : ◌≡◌ {A = ℕ} 0 1 = cc in absurd (omega arith)
+both-head (Some q) None ps h = let z : ◌≡◌ {A = ℕ} 0 1 = cc in absurd (omega arith)
+both-head (Some q) (Some qs) ps h = (q, qs, refl, refl, cc)
 
-module _ (s k p : ℕ) (f : Bytes) (fs : List Bytes) (q : Part) (e : part_in f ≡ some q) (ok : is_part_of s q ≡ true) where
+module _ (s k p : ℕ) (f : Bytes) (fs : List Bytes) (q : Part) (e : part_in f ≡ Some q) (ok : is_part_of s q ≡ true) where
   one_more : (ps : List Part) → count is_parameter (q ∷ ps) ≡ select (is_parameter q) 1 0 + count is_parameter ps
   unfolding count
   one_more ps = go (is_parameter q)
@@ -205,7 +205,7 @@ module _ (s k p : ℕ) (f : Bytes) (fs : List Bytes) (q : Part) (e : part_in f �
         (omega (arith, c, ap (count is_parameter) list, one_more r.1)),
   )
     where
-      some_same : (x y : Part) → some x ≡ some y → x ≡ y
+      some_same : (x y : Part) → Some x ≡ Some y → x ≡ y
       some_same x y z = cc
 
   unsaid-many : 64 < k + 1 → Unsaid s k p (f ∷ fs) 65
@@ -251,11 +251,11 @@ pub count-is : (s : ℕ) (fs : List Bytes) → count_from s 0 0 fs ≡ parts_sai
 count-is s fs = go (counted s fs 0 0 (omega arith))
   where
     unsaid : (o : Option (List Part)) → parts_in fs ≡ o → Unsaid s 0 0 fs (count_from s 0 0 fs) → 65 ≡ parts_said s o
-    unsaid none e u = refl
-    unsaid (some ps) e u = by (tested (leb (length ps) 64 && (leb (count is_parameter ps) 8 && every (is_part_of s) ps)))
+    unsaid None e u = refl
+    unsaid (Some ps) e u = by (tested (leb (length ps) 64 && (leb (count is_parameter ps) 8 && every (is_part_of s) ps)))
       where
         by : ((leb (length ps) 64 && (leb (count is_parameter ps) 8 && every (is_part_of s) ps)) ≡ true)
-            ⊎ ((leb (length ps) 64 && (leb (count is_parameter ps) 8 && every (is_part_of s) ps)) ≡ false) → 65 ≡ parts_said s (some ps)
+            ⊎ ((leb (length ps) 64 && (leb (count is_parameter ps) 8 && every (is_part_of s) ps)) ≡ false) → 65 ≡ parts_said s (Some ps)
         by (inl h) =
             let rest = and_right (leb (length ps) 64) _ h in
             absurd

@@ -3,7 +3,7 @@ use mathlib.Core.Path.{◌≡◌, refl, sym, ap, ap₂, ◌∙◌, subst}
 use mathlib.Core.Logic.{◌⊎◌, inl, inr}
 use mathlib.Core.Bool.{Bool, true, false, ◌&&◌}
 use mathlib.Core.List.{List, [], ◌∷◌, ◌++◌}
-use mathlib.Core.Option.{Option, none, some}
+use Rattle.std.specs.Prelude.{Option, None, Some}
 use Prim.Native.Nat.{ℕ, suc, ◌+◌, ◌≤◌, ◌<◌, min}
 use native.Mathlib.Omega.{arith}
 use lib.Dec.{leb, ltb}
@@ -34,12 +34,12 @@ use Rattle.listing.specs.Judging.{fields_at, parts_said, Counted, LineSays}
 use Rattle.listing.proofs.Counts.{count_from, count-is, fields-over, fields_open, pieces-at, Said, Unsaid, counted, rule-more, More, more-rule}
 
 -- nothing, or something
-none_or : {A : Type 0} (o : Option A) → ((a : A) → o ≡ some a → ⊥) → o ≡ none
-none_or none h = refl
-none_or (some a) h = absurd (h a refl)
+none_or : {A : Type 0} (o : Option A) → ((a : A) → o ≡ Some a → ⊥) → o ≡ None
+none_or None h = refl
+none_or (Some a) h = absurd (h a refl)
 
-checked-some : (d : Data) → data_fits d ≡ true → checked d ≡ some d
-checked-some d h = ap (λ (b : Bool). select b (some d) none) h
+checked-some : (d : Data) → data_fits d ≡ true → checked d ≡ Some d
+checked-some d h = ap (λ (b : Bool). select b (Some d) None) h
 
 module _ (d : Data) (s r p l : ℕ) (c : Counted d s r p l) where
   pub counted-small : (s ≤ 32) × (r ≤ 512) × (p ≤ 8192)
@@ -56,10 +56,10 @@ module _ (d : Data) (s r p l : ℕ) (c : Counted d s r p l) where
 
   -- ---- a ruleset
 
-  pub top-after : (o : Option Bool) → 0 < r → add_top d d.rules o ≡ none
+  pub top-after : (o : Option Bool) → 0 < r → add_top d d.rules o ≡ None
   top-after o h = go d.rules c.rules
     where
-      go : (rs : List Rule) → r ≡ length rs → add_top d rs o ≡ none
+      go : (rs : List Rule) → r ≡ length rs → add_top d rs o ≡ None
       go [] e = absurd (omega arith)
       go (x ∷ rs) e = refl
 
@@ -70,23 +70,23 @@ module _ (d : Data) (s r p l : ℕ) (c : Counted d s r p l) where
       go [] e = refl
       go (x ∷ rs) e = absurd (omega arith)
 
-  pub top-full : (o : Option Bool) → r ≤ 0 → s ≡ 32 → add_top d d.rules o ≡ none
+  pub top-full : (o : Option Bool) → r ≤ 0 → s ≡ 32 → add_top d d.rules o ≡ None
   top-full o h f = ap (λ (rs : List Rule). add_top d rs o) (no-rules h) ∙ go o
     where
-      go : (o : Option Bool) → add_top d [] o ≡ none
-      go none = refl
-      go (some top) = none_or (checked (with_top d top)) (λ e k. let q = checked-is (with_top d top) e k in
+      go : (o : Option Bool) → add_top d [] o ≡ None
+      go None = refl
+      go (Some top) = none_or (checked (with_top d top)) (λ e k. let q = checked-is (with_top d top) e k in
           let z = (fits_all (d.tops ++ (top ∷ [])) d.rules (ap data_fits q.0 ∙ q.1)).sizes in omega (arith, z, c.sets, length-append d.tops (top ∷ [])))
 
-  pub top-neither : (o : Option Bool) → o ≡ none → add_top d d.rules o ≡ none
+  pub top-neither : (o : Option Bool) → o ≡ None → add_top d d.rules o ≡ None
   top-neither o e = ap (add_top d d.rules) e ∙ go d.rules
     where
-      go : (rs : List Rule) → add_top d rs none ≡ none
+      go : (rs : List Rule) → add_top d rs None ≡ None
       go [] = refl
       go (x ∷ rs) = refl
 
-  pub top-more : (o : Option Bool) (top : Bool) → o ≡ some top → r ≤ 0 → (s ≡ 32 → ⊥)
-      → (e : Data) × (add_top d d.rules o ≡ some e) × Counted e (s + 1) 0 0 0
+  pub top-more : (o : Option Bool) (top : Bool) → o ≡ Some top → r ≤ 0 → (s ≡ 32 → ⊥)
+      → (e : Data) × (add_top d d.rules o ≡ Some e) × Counted e (s + 1) 0 0 0
   unfolding parts_of ascend every
   top-more o top q h n = (
     data_from (d.tops ++ (top ∷ [])) [],
@@ -110,7 +110,7 @@ module _ (d : Data) (s r p l : ℕ) (c : Counted d s r p l) where
       pub short : k ≤ 64
       pub room : p + k ≤ 8192
 
-    tests-of : (m : ℕ) (ps : List Part) → number_of f ≡ some m → parts_in fs ≡ some ps → (e : Data) → checked (with_rule d (rule m ps)) ≡ some e → Tests
+    tests-of : (m : ℕ) (ps : List Part) → number_of f ≡ Some m → parts_in fs ≡ Some ps → (e : Data) → checked (with_rule d (rule m ps)) ≡ Some e → Tests
     unfolding rule_fits
     tests-of m ps a b e h = go (counted s fs 0 0 (omega arith))
       where
@@ -135,7 +135,7 @@ module _ (d : Data) (s r p l : ℕ) (c : Counted d s r p l) where
         number : n ≡ m
         number = low ∙ ap low_number a ∙ omega (arith, under, counted-small.0)
 
-        some_is : (x y : List Part) → some x ≡ some y → x ≡ y
+        some_is : (x y : List Part) → Some x ≡ Some y → x ≡ y
         some_is x y z = cc
 
         go : Said s 0 0 fs (count_from s 0 0 fs) ⊎ Unsaid s 0 0 fs (count_from s 0 0 fs) → Tests
@@ -151,24 +151,24 @@ module _ (d : Data) (s r p l : ℕ) (c : Counted d s r p l) where
         go (inr u) =
             absurd (u.1 ps b (and_right (leb (count is_parameter ps) 8) _ rest) (omega (arith, short)) (omega (arith, leb-true (count is_parameter ps) 8 (and_left (leb (count is_parameter ps) 8) _ rest))))
 
-    rule-none : (Tests → ⊥) → add_rule d (rule_in (f ∷ fs)) ≡ none
+    rule-none : (Tests → ⊥) → add_rule d (rule_in (f ∷ fs)) ≡ None
     rule-none h = go (number_of f) (parts_in fs) refl refl
       where
-        go : (o : Option ℕ) (os : Option (List Part)) → number_of f ≡ o → parts_in fs ≡ os → add_rule d (both rule o os) ≡ none
-        go none os a b = refl
-        go (some m) none a b = refl
-        go (some m) (some ps) a b = none_or (checked (with_rule d (rule m ps))) (λ e z. h (tests-of m ps a b e z))
+        go : (o : Option ℕ) (os : Option (List Part)) → number_of f ≡ o → parts_in fs ≡ os → add_rule d (both rule o os) ≡ None
+        go None os a b = refl
+        go (Some m) None a b = refl
+        go (Some m) (Some ps) a b = none_or (checked (with_rule d (rule m ps))) (λ e z. h (tests-of m ps a b e z))
 
-    rule-some : Tests → (e : Data) × (add_rule d (rule_in (f ∷ fs)) ≡ some e) × Counted e s (r + 1) (p + k) n
+    rule-some : Tests → (e : Data) × (add_rule d (rule_in (f ∷ fs)) ≡ Some e) × Counted e s (r + 1) (p + k) n
     unfolding rule_fits parts_of
     rule-some t = go (number_of f) refl (counted s fs 0 0 (omega arith)) c.reached
       where
         go : (o : Option ℕ) → number_of f ≡ o → Said s 0 0 fs (count_from s 0 0 fs) ⊎ Unsaid s 0 0 fs (count_from s 0 0 fs) → (d ≡ nothing) ⊎ (data_fits d ≡ true)
-            → (e : Data) × (add_rule d (rule_in (f ∷ fs)) ≡ some e) × Counted e s (r + 1) (p + k) n
-        go none a z w = absurd (omega (arith, low ∙ ap low_number a, t.below, counted-small.0))
-        go (some m) a (inr u) w = absurd (omega (arith, u.0, by_count, t.short))
-        go (some m) a (inl z) (inl w) = absurd (omega (arith, t.below, c.sets, ap (λ (x : Data). length x.tops) w))
-        go (some m) a (inl z) (inr w) = (
+            → (e : Data) × (add_rule d (rule_in (f ∷ fs)) ≡ Some e) × Counted e s (r + 1) (p + k) n
+        go None a z w = absurd (omega (arith, low ∙ ap low_number a, t.below, counted-small.0))
+        go (Some m) a (inr u) w = absurd (omega (arith, u.0, by_count, t.short))
+        go (Some m) a (inl z) (inl w) = absurd (omega (arith, t.below, c.sets, ap (λ (x : Data). length x.tops) w))
+        go (Some m) a (inl z) (inr w) = (
           with_rule d (rule m z.all),
           ap (add_rule d) (ap₂ (both rule) a z.is) ∙ checked-some _ fits,
           record {
@@ -197,15 +197,15 @@ module _ (d : Data) (s r p l : ℕ) (c : Counted d s r p l) where
 
 -- ---- a ruleset's field
 
-pub top-field : (x : Bytes) → same x top_word ≡ true → top_in (pieces 9 x) ≡ some true
+pub top-field : (x : Bytes) → same x top_word ≡ true → top_in (pieces 9 x) ≡ Some true
 unfolding pieces same
 top-field x h = ap (λ (y : Bytes). top_in (pieces 9 y)) (same_true x top_word h)
 
-pub nested-field : (x : Bytes) → same x nested_word ≡ true → top_in (pieces 9 x) ≡ some false
+pub nested-field : (x : Bytes) → same x nested_word ≡ true → top_in (pieces 9 x) ≡ Some false
 unfolding pieces same
 nested-field x h = ap (λ (y : Bytes). top_in (pieces 9 y)) (same_true x nested_word h)
 
-pub no_field : (x : Bytes) → same x top_word ≡ false → same x nested_word ≡ false → top_in (pieces 9 x) ≡ none
+pub no_field : (x : Bytes) → same x top_word ≡ false → same x nested_word ≡ false → top_in (pieces 9 x) ≡ None
 unfolding parted
 no_field x p q = none_or (top_in (pieces 9 x)) (λ top h. go top (sym (parted-pieces 9 x) ∙ ap (parted 9) (tail-is (pieces 9 x) top (top-is (pieces 9 x) top h))))
   where
@@ -223,11 +223,11 @@ module _ (t : Bytes) (at end tab : ℕ) (fits : end ≤ length t) (f : Found t a
   unfolding read_line
   cut-is = ap (read_fields d) (pieces-at t at end tab fits f)
 
-  pub line-bare : (s r p l : ℕ) → Counted d s r p l → tab ≡ end → read_line d (slice at end t) ≡ none
+  pub line-bare : (s r p l : ℕ) → Counted d s r p l → tab ≡ end → read_line d (slice at end t) ≡ None
   line-bare s r p l c e = cut-is ∙ ap (λ (fs : List Bytes). read_fields d (slice at tab t ∷ fs)) (fields-over t tab end (omega arith)) ∙ go (same (slice at tab t) ruleset_word) (same (slice at tab t) rule_word)
     where
-      go : (b e : Bool) → select b (add_top d d.rules none) (select e (add_rule d none) none) ≡ none
-      go true e = top-neither d s r p l c none refl
+      go : (b e : Bool) → select b (add_top d d.rules None) (select e (add_rule d None) None) ≡ None
+      go true e = top-neither d s r p l c None refl
       go false true = refl
       go false false = refl
 
@@ -235,21 +235,21 @@ module _ (t : Bytes) (at end tab : ℕ) (fits : end ≤ length t) (f : Found t a
   open_is h = cut-is ∙ ap (λ (fs : List Bytes). read_fields d (slice at tab t ∷ fs)) (fields_open t tab end h)
 
   pub line-top : tab < end → same (slice at tab t) ruleset_word ≡ true → add_top d d.rules (top_in (pieces 9 (slice (tab + 1) end t))) ≡ read_line d (slice at end t)
-  line-top h w = sym (open_is h ∙ ap (λ (b : Bool). select b (add_top d d.rules (top_in (pieces 9 (slice (tab + 1) end t)))) (select (same (slice at tab t) rule_word) (add_rule d (rule_in (pieces 9 (slice (tab + 1) end t)))) none)) w)
+  line-top h w = sym (open_is h ∙ ap (λ (b : Bool). select b (add_top d d.rules (top_in (pieces 9 (slice (tab + 1) end t)))) (select (same (slice at tab t) rule_word) (add_rule d (rule_in (pieces 9 (slice (tab + 1) end t)))) None)) w)
 
   pub line-rule : tab < end → same (slice at tab t) ruleset_word ≡ false → same (slice at tab t) rule_word ≡ true → add_rule d (rule_in (pieces 9 (slice (tab + 1) end t))) ≡ read_line d (slice at end t)
-  line-rule h v w = sym (open_is h ∙ ap₂ (λ (b e : Bool). select b (add_top d d.rules (top_in (pieces 9 (slice (tab + 1) end t)))) (select e (add_rule d (rule_in (pieces 9 (slice (tab + 1) end t)))) none)) v w)
+  line-rule h v w = sym (open_is h ∙ ap₂ (λ (b e : Bool). select b (add_top d d.rules (top_in (pieces 9 (slice (tab + 1) end t)))) (select e (add_rule d (rule_in (pieces 9 (slice (tab + 1) end t)))) None)) v w)
 
-  pub line_other : tab < end → same (slice at tab t) ruleset_word ≡ false → same (slice at tab t) rule_word ≡ false → read_line d (slice at end t) ≡ none
-  line_other h v w = open_is h ∙ ap₂ (λ (b e : Bool). select b (add_top d d.rules (top_in (pieces 9 (slice (tab + 1) end t)))) (select e (add_rule d (rule_in (pieces 9 (slice (tab + 1) end t)))) none)) v w
+  pub line_other : tab < end → same (slice at tab t) ruleset_word ≡ false → same (slice at tab t) rule_word ≡ false → read_line d (slice at end t) ≡ None
+  line_other h v w = open_is h ∙ ap₂ (λ (b e : Bool). select b (add_top d d.rules (top_in (pieces 9 (slice (tab + 1) end t)))) (select e (add_rule d (rule_in (pieces 9 (slice (tab + 1) end t)))) None)) v w
 
   -- a rule's fields
   module _ (s r p l n k : ℕ) (c : Counted d s r p l) (low : n ≡ low_number (number_of (slice at tab t))) (many : k ≡ parts_said s (parts_in (fields_at t tab end))) where
-    pub fields-none : (Tests d s r p l c (slice at tab t) (fields_at t tab end) n k low many → ⊥) → add_rule d (rule_in (pieces 9 (slice at end t))) ≡ none
+    pub fields-none : (Tests d s r p l c (slice at tab t) (fields_at t tab end) n k low many → ⊥) → add_rule d (rule_in (pieces 9 (slice at end t))) ≡ None
     fields-none h = ap (λ (fs : List Bytes). add_rule d (rule_in fs)) (pieces-at t at end tab fits f) ∙ rule-none d s r p l c (slice at tab t) (fields_at t tab end) n k low many h
 
     pub fields-some : Tests d s r p l c (slice at tab t) (fields_at t tab end) n k low many
-        → (e : Data) × (add_rule d (rule_in (pieces 9 (slice at end t))) ≡ some e) × Counted e s (r + 1) (p + k) n
+        → (e : Data) × (add_rule d (rule_in (pieces 9 (slice at end t))) ≡ Some e) × Counted e s (r + 1) (p + k) n
     fields-some h =
         let z = rule-some d s r p l c (slice at tab t) (fields_at t tab end) n k low many h in
         (z.0, ap (λ (fs : List Bytes). add_rule d (rule_in fs)) (pieces-at t at end tab fits f) ∙ z.1, z.2)
@@ -281,7 +281,7 @@ cut_line t at end f b =
     ∙ piece-first 10 (slice at end t) (drop (end + 1) t) f.before
 
 -- one line more, one ruleset or rule more
-lines_more : (d e : Data) (line : Bytes) → read_line d line ≡ some e → length e.tops + length e.rules ≡ suc (length d.tops + length d.rules)
+lines_more : (d e : Data) (line : Bytes) → read_line d line ≡ Some e → length e.tops + length e.rules ≡ suc (length d.tops + length d.rules)
 lines_more d e line h =
     omega (arith, ap length (line-added d e line h).lines, length-append (lines_of d) (line ∷ []), lines-many d, lines-many e)
 
@@ -302,7 +302,7 @@ module _ (t : Bytes) (at s r p l : ℕ) (h : From t at s r p l) where
     few-lines,
   )
 
-  pub from-bad : (end : ℕ) → Found t at (length t) 10 end → end < length t → read_line h.so_far (slice at end t) ≡ none → (read t ≡ bad (s + r)) × (s + r ≤ 544)
+  pub from-bad : (end : ℕ) → Found t at (length t) 10 end → end < length t → read_line h.so_far (slice at end t) ≡ None → (read t ≡ bad (s + r)) × (s + r ≤ 544)
   from-bad end f b q = (
     sym h.same_read ∙ ap (read_from (s + r) h.so_far) (cut_line t at end f b)
         ∙ stops (s + r) h.so_far (slice at end t) (pieces 10 (drop (end + 1) t)) (pieces-some 10 (drop (end + 1) t)) q,
@@ -310,7 +310,7 @@ module _ (t : Bytes) (at s r p l : ℕ) (h : From t at s r p l) where
   )
 
   pub from_next : (end : ℕ) → Found t at (length t) 10 end → end < length t → (s' r' p' l' : ℕ)
-      → (e : Data) × (read_line h.so_far (slice at end t) ≡ some e) × Counted e s' r' p' l' → From t (end + 1) s' r' p' l'
+      → (e : Data) × (read_line h.so_far (slice at end t) ≡ Some e) × Counted e s' r' p' l' → From t (end + 1) s' r' p' l'
   from_next end f b s' r' p' l' z =
       let c = h.counted in
       let d = z.2 in
@@ -349,8 +349,8 @@ pub bad-at : {x : Read} {k n : ℕ} → k ≡ n → (x ≡ bad n) × (n ≤ 544)
 bad-at {x} {k} {n} e h = (h.0 ∙ ap bad (sym e), omega (arith, e, h.1))
 
 -- an answer on a line, case by case
-pub says-bad : (o : Option Data) (r : Line) → r ≡ Bad → LineSays o r → o ≡ none
+pub says-bad : (o : Option Data) (r : Line) → r ≡ Bad → LineSays o r → o ≡ None
 says-bad o r e h = subst (LineSays o) e h
 
-pub says-fits : (o : Option Data) (r : Line) (z : Sizes) → r ≡ Fits z → LineSays o r → (e : Data) × (o ≡ some e) × Counted e z.sets z.rules z.parts z.last
+pub says-fits : (o : Option Data) (r : Line) (z : Sizes) → r ≡ Fits z → LineSays o r → (e : Data) × (o ≡ Some e) × Counted e z.sets z.rules z.parts z.last
 says-fits o r z e h = subst (LineSays o) e h

@@ -1,6 +1,5 @@
 -- What the judging pass finds, line by line.
-use Rattle.std.specs.Prelude.{◌≡◌, ◌&&◌, List, [], ℕ, ◌+◌, ◌≤◌, leb, ltb, length}
-use Rattle.std.proofs.Math.Option.{Option, none, some}
+use Rattle.std.specs.Prelude.{◌≡◌, ◌&&◌, List, [], ℕ, ◌+◌, ◌≤◌, leb, ltb, length, Option, None, Some}
 use Rattle.std.proofs.Math.Seq.{slice}
 use Rattle.plain.specs.Choice.{select}
 use Rattle.plain.specs.Lists.{count, every}
@@ -20,8 +19,8 @@ fields_at text tab end = select (ltb tab end) (pieces 9 (slice (tab + 1) end tex
 
 -- how many parts fields say of a rule: at most 64 parts and 8 parameters, each within the limits; else 65
 abbrev pub parts_said : ℕ → Option (List Part) → ℕ
-parts_said s none = 65
-parts_said s (some ps) = select (leb (length ps) 64 && (leb (count is_parameter ps) 8 && every (is_part_of s) ps)) (length ps) 65
+parts_said s None = 65
+parts_said s (Some ps) = select (leb (length ps) 64 && (leb (count is_parameter ps) 8 && every (is_part_of s) ps)) (length ps) 65
 
 -- ---- the lines so far
 
@@ -39,8 +38,8 @@ pub record Countable (s r p l : ℕ) : Type 0 where
 
 -- what the answer on one more line says of the data with it
 abbrev pub LineSays : Option Data → Line → Type 0
-LineSays o (Fits z) = (e : Data) × (o ≡ some e) × Counted e z.sets z.rules z.parts z.last
-LineSays o Bad = o ≡ none
+LineSays o (Fits z) = (e : Data) × (o ≡ Some e) × Counted e z.sets z.rules z.parts z.last
+LineSays o Bad = o ≡ None
 
 -- what the answer on a whole text says of its reading; no listing has more than 544 lines
 abbrev pub Judges : Read → Judged → Type 0

@@ -4,7 +4,7 @@ use mathlib.Core.Path.{◌≡◌, refl, sym, ap, ◌∙◌}
 use mathlib.Core.Bool.{Bool, true, false}
 use mathlib.Core.List.{List, [], ◌∷◌, ◌++◌, append-nil, append_assoc, Memᴰ}
 use mathlib.Core.Logic.{◌⊎◌, inl, inr}
-use mathlib.Core.Option.{Option, none, some}
+use Rattle.std.specs.Prelude.{Option, None, Some}
 use Prim.Native.Nat.{ℕ, ◌+◌, ◌≤◌}
 use native.Mathlib.Omega.{arith}
 use lib.Dec.{eqb}
@@ -80,15 +80,15 @@ module _ (key : ℕ → ℕ) where
   -- so one candidate more, if there is one, is added to those that stayed
   pub firsts-added : (xs : List ℕ) (o : Option ℕ) → firsts same_key (xs ++ list_of o) ≡ added same_key (firsts same_key xs) o
   unfolding added
-  firsts-added xs none = ap (firsts same_key) (append-nil xs)
-  firsts-added xs (some x) =
+  firsts-added xs None = ap (firsts same_key) (append-nil xs)
+  firsts-added xs (Some x) =
       firsts_more same_key xs x ∙ ap (λ (b : Bool). firsts same_key xs ++ unless b x []) (sym (kept-tell xs x))
 
 -- it adds at most one
 pub added-few : (same : ℕ → ℕ → Bool) (es : List ℕ) (o : Option ℕ) → length (added same es o) ≤ length es + 1
 unfolding added
-added-few same es none = omega arith
-added-few same es (some e) = omega (arith, length-append es (unless (any_same same es e) e []), one (any_same same es e))
+added-few same es None = omega arith
+added-few same es (Some e) = omega (arith, length-append es (unless (any_same same es e) e []), one (any_same same es e))
   where
     one : (b : Bool) → length (unless b e []) ≤ 1
     one true = omega arith

@@ -2,7 +2,7 @@
 -- was passed is whitespace. The words past the table's end are no parts.
 use mathlib.Core.Path.{◌≡◌, sym, ap, ◌∙◌}
 use mathlib.Core.List.{List, ◌∷◌, map}
-use mathlib.Core.Option.{Option, none}
+use Rattle.std.specs.Prelude.{Option, None}
 use Prim.Native.Nat.{ℕ, ◌+◌, ◌≤◌, ◌<◌}
 use native.Mathlib.Omega.{arith}
 use lib.ListN.{length, drop}
@@ -24,6 +24,6 @@ module _ (t : List ℕ) (at end : ℕ) (fits : end ≤ length t) (o : Option ℕ
   pub ahead-met : (q : Part) → at < end → q ≡ part_of (word_at t at) → lookahead (q ∷ parts_between t (at + 1) end) ≡ o
   ahead-met q below is = ap lookahead (sym (met t at end fits below q is)) ∙ from
 
-  pub ahead_none : end ≤ at → none ≡ o
+  pub ahead_none : end ≤ at → None ≡ o
   unfolding lookahead
   ahead_none h = ap lookahead (sym (parts_none t at end fits h)) ∙ from

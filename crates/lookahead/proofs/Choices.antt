@@ -3,7 +3,7 @@
 use mathlib.Core.Path.{◌≡◌, refl, sym, ap, ◌∙◌}
 use mathlib.Core.Bool.{Bool}
 use mathlib.Core.List.{List, [], ◌∷◌, ◌++◌, append_assoc, Memᴰ}
-use mathlib.Core.Option.{Option, none, some}
+use Rattle.std.specs.Prelude.{Option, None, Some}
 use Prim.Native.Nat.{ℕ, ◌≤◌}
 use native.Mathlib.Omega.{arith}
 use lib.ListN.{length}
@@ -24,8 +24,8 @@ module _ (t line sheet other : List ℕ) (l c : ℕ) (ps : List Part) where
   sheet-free = by (lookahead ps)
     where
       by : (o : Option ℕ) → cut_by (scene_of t line sheet) l c o ≡ cut_by (scene_of t line other) l c o
-      by none = refl
-      by (some x) = refl
+      by None = refl
+      by (Some x) = refl
 
   pub sheet-free-limits : limits (scene_of t line sheet) l c ps ≡ limits (scene_of t line other) l c ps
   unfolding limits
@@ -61,8 +61,8 @@ module _ (s : Scene) (l c : ℕ) (ps : List Part) where
   limits-few = by (cut_for s l c ps)
     where
       by : (o : Option ℕ) → (1 ≤ length (l ∷ list_of o)) × (length (l ∷ list_of o) ≤ 2)
-      by none = (omega arith, omega arith)
-      by (some m) = (omega arith, omega arith)
+      by None = (omega arith, omega arith)
+      by (Some m) = (omega arith, omega arith)
 
 -- ---- where they lie
 

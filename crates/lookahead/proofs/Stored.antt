@@ -3,7 +3,8 @@
 use mathlib.Core.Path.{◌≡◌, refl, sym, ap, ◌∙◌}
 use mathlib.Core.Bool.{Bool, true, false, ◌||◌}
 use mathlib.Core.List.{List, [], ◌∷◌, ◌++◌, append-nil}
-use mathlib.Core.Option.{Option, none, some, none-ne-some}
+use Rattle.std.specs.Prelude.{Option, None, Some}
+use Rattle.plain.proofs.Options.{none-ne-some}
 use Prim.Native.Nat.{ℕ, zero, suc, ◌+◌, ◌≤◌, ◌<◌, min}
 use native.Mathlib.Numerals.{add-one}
 use native.Mathlib.Omega.{arith}
@@ -156,7 +157,7 @@ module _ (sheet : List ℕ) (n c : ℕ) (cut : Lookahead) where
   pub free-at : (m : ℕ) → cut ≡ At m → free_end sheet n c m ≡ free_under (free_end sheet n) c (cut_says cut)
   free-at m e = ap (λ (x : Lookahead). free_under (free_end sheet n) c (cut_says x)) (sym e)
 
-  pub free-none : cut ≡ Nothing → none ≡ free_under (free_end sheet n) c (cut_says cut)
+  pub free-none : cut ≡ Nothing → None ≡ free_under (free_end sheet n) c (cut_says cut)
   free-none e = ap (λ (x : Lookahead). free_under (free_end sheet n) c (cut_says x)) (sym e)
 
 -- what is read of a good sheet by a walker that stands within the line: the entry under its limit, and the one under its cut
@@ -168,13 +169,13 @@ module _ (t line sheet : List ℕ) (good : sheet_fits sheet (length line) ≡ tr
   pub read_whole : {l : ℕ} → l ≡ w.limit → ReadAt sheet (length line) c l
   read_whole limit_is = record { size = long-enough; order = omega (arith, order); limit = omega (arith, limit) }
 
-  cut-between : (m : ℕ) (o : Option ℕ) → cut_by (scene_of t line sheet) w.limit w.cursor o ≡ some m → (w.cursor ≤ m) × (m ≤ w.limit)
-  cut-between m none e = absurd (none-ne-some m e)
-  cut-between m (some x) e = (lawful t line sheet good).cut_within x w.limit w.cursor m order e
+  cut-between : (m : ℕ) (o : Option ℕ) → cut_by (scene_of t line sheet) w.limit w.cursor o ≡ Some m → (w.cursor ≤ m) × (m ≤ w.limit)
+  cut-between m None e = absurd (none-ne-some m e)
+  cut-between m (Some x) e = (lawful t line sheet good).cut_within x w.limit w.cursor m order e
 
   pub read-cut :
       (ps : List Part) (cut : Lookahead) → cut_says cut ≡ cut_for (scene_of t line []) w.limit w.cursor ps →
-      (m : ℕ) → cut_says cut ≡ some m → ReadAt sheet (length line) c m
+      (m : ℕ) → cut_says cut ≡ Some m → ReadAt sheet (length line) c m
   unfolding cut_for
   read-cut ps cut at m e =
       let between = cut-between m (lookahead ps) (sym (sheet-free t line [] sheet w.limit w.cursor ps) ∙ sym at ∙ e) in

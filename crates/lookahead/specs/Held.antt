@@ -1,6 +1,5 @@
 -- What the answers say, and the lists of ends and limits as the code holds them.
-use Rattle.std.specs.Prelude.{Bool, List, [], ◌++◌, ℕ, length, get_or}
-use Rattle.std.proofs.Math.Option.{Option, none, some}
+use Rattle.std.specs.Prelude.{Bool, List, [], ◌++◌, ℕ, length, get_or, Option, None, Some}
 use Rattle.plain.specs.Lists.{listed}
 use Rattle.readings.specs.Walk.{any_same, unless}
 use Rattle.lookahead.specs.declared.Character.{Character}
@@ -10,8 +9,8 @@ use Rattle.lookahead.specs.declared.Limits.{Limits}
 
 -- the lookahead character, if there is one
 abbrev pub char_says : Character → Option ℕ
-char_says (Found x) = some x
-char_says Nothing = none
+char_says (Found x) = Some x
+char_says Nothing = None
 
 -- a list of ends as the code holds it: three places, 0 where there is none, and how many there are
 unfoldable pub held_ends : List ℕ → Ends
@@ -23,5 +22,5 @@ held_limits es = record { count = length es; places = listed 2 (λ j. get_or es 
 
 -- "only the first stays": one candidate more, if there is one, and if it is the same as none that stayed
 unfoldable pub added : (ℕ → ℕ → Bool) → List ℕ → Option ℕ → List ℕ
-added same es none = es
-added same es (some e) = es ++ unless (any_same same es e) e []
+added same es None = es
+added same es (Some e) = es ++ unless (any_same same es e) e []

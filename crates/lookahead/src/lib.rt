@@ -5,8 +5,7 @@
 // useful places and a good sheet, and the walker stands within it.
 #![tactic(auto)]
 
-ghost use Rattle.std.specs.Prelude.{◌≡◌, true, List, [], ℕ, ◌≤◌, ◌<◌, length, take};
-ghost use Rattle.std.proofs.Math.Option.{some};
+ghost use Rattle.std.specs.Prelude.{◌≡◌, true, List, [], ℕ, ◌≤◌, ◌<◌, length, take, Some};
 ghost use Rattle.syntax.specs.Walker.{useful};
 ghost use Rattle.syntax.specs.Cut.{cut_says};
 ghost use Rattle.useful.specs.Useful.{Lent};
@@ -136,7 +135,7 @@ fn add_end(line: &[u8], useful: &[u8; PLACES], walker: Walker, ends: Ends, exten
 
 // free(c, cut), if there is a cut.
 fn free_to_cut(sheet: &[u8], n: usize, c: usize, cut: Lookahead) -> Extent
-    requires { (m : ℕ) → cut_says cut ≡ some m → ReadAt sheet.now n c m }
+    requires { (m : ℕ) → cut_says cut ≡ Some m → ReadAt sheet.now n c m }
     ensures { end_of result ≡ free_under (free_end sheet.now n) c (cut_says cut) }
 {
     match cut {

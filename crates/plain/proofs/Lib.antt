@@ -8,6 +8,7 @@ pub mod Calls
 pub mod Answers
 pub mod Members
 pub mod Passed
+pub mod Options
 pub mod Kept
 pub mod Replaced
 pub mod Tried

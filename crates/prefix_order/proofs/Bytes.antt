@@ -3,7 +3,7 @@
 use mathlib.Core.Path.{◌≡◌, refl, sym, ◌∙◌}
 use mathlib.Core.Bool.{Bool, true, false}
 use mathlib.Core.List.{List, [], ◌∷◌, map}
-use mathlib.Core.Option.{none}
+use Rattle.std.specs.Prelude.{None}
 use Prim.Native.Nat.{ℕ, ◌≤◌}
 use native.Mathlib.Omega.{arith}
 use lib.ListN.{length, length-take}
@@ -38,7 +38,7 @@ solid-bytes (b ∷ line) h = go (is_solid b) refl (solid-bytes line (every-tail 
     go true e ih = every-cons is_byte (map lowered (keep_if is_solid line)) (byte (not-true (is_whitespace b) e)) ih
     go false e ih = ih
 
-pub line-bytes : (line : List ℕ) → fault_at line ≡ none → every is_byte (line_prefix line) ≡ true
+pub line-bytes : (line : List ℕ) → fault_at line ≡ None → every is_byte (line_prefix line) ≡ true
 unfolding line_prefix
 line-bytes line good =
     every_take is_byte 4 (map lowered (keep_if is_solid line))

@@ -1,6 +1,5 @@
 -- The top rules in order of prefix, by their bytes and then by the table, and what finding a line's rules in it asks.
-use Rattle.std.specs.Prelude.{◌≡◌, true, List, map, ℕ, ◌+◌, ◌*◌, ◌/◌, ◌%◌, ◌≤◌, ◌<◌, eqb, length, get_or, take}
-use Rattle.std.proofs.Math.Option.{none}
+use Rattle.std.specs.Prelude.{◌≡◌, true, List, map, ℕ, ◌+◌, ◌*◌, ◌/◌, ◌%◌, ◌≤◌, ◌<◌, eqb, length, get_or, take, None}
 use Rattle.plain.specs.Buffers.{put_after}
 use Rattle.plain.specs.Lists.{keep_if}
 use Rattle.line.specs.Line.{fault_at}
@@ -45,7 +44,7 @@ pub record LayAsked (t places rules order : List ℕ) (n : ℕ) : Type 0 where
 -- what finding asks: an accepted table and line, the table's order, and room
 pub record FindAsked (t order line rules : List ℕ) (n : ℕ) : Type 0 where
   pub table : table_fits t ≡ true
-  pub good : fault_at line ≡ none
+  pub good : fault_at line ≡ None
   pub ordered : take n order ≡ entries t
   pub fits : n ≤ length order
   pub room : length rules ≡ 512

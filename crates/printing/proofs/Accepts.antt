@@ -3,7 +3,7 @@
 use mathlib.Core.Path.{◌≡◌, refl, sym, ap, ap₂, ◌∙◌, subst}
 use mathlib.Core.Bool.{Bool, true, false, ◌&&◌}
 use mathlib.Core.List.{List, [], ◌∷◌, ◌++◌, map, append-nil, append_assoc}
-use mathlib.Core.Option.{Option, none, some}
+use Rattle.std.specs.Prelude.{Option, None, Some}
 use Prim.Native.Nat.{ℕ, suc, ◌+◌, ◌<◌}
 use native.Mathlib.Omega.{arith}
 use lib.Dec.{leb, ltb}
@@ -35,24 +35,24 @@ last-parts ts xs r h =
     rule-parts (length ts) r (and_left (rule_fits (length ts) r) true (every-last (rule_fits (length ts)) xs (r ∷ []) (fits_all ts (xs ++ (r ∷ [])) h).each))
 
 line-rule : (ts : List Bool) (xs : List Rule) (r : Rule) → data_fits (data_from ts (xs ++ (r ∷ []))) ≡ true
-    → read_line (data_from ts xs) (rule_line r) ≡ some (data_from ts (xs ++ (r ∷ [])))
+    → read_line (data_from ts xs) (rule_line r) ≡ Some (data_from ts (xs ++ (r ∷ [])))
 unfolding read_line same
 line-rule ts xs r h =
     ap (read_fields (data_from ts xs)) (pieces-parted 9 rule_word _ (rule-lacks 9 (omega arith) (length ts) r (last-parts ts xs r h)))
     ∙ ap (add_rule (data_from ts xs)) (rule-read r)
-    ∙ ap (λ (t : Bool). select t (some (data_from ts (xs ++ (r ∷ [])))) none) h
+    ∙ ap (λ (t : Bool). select t (Some (data_from ts (xs ++ (r ∷ [])))) None) h
 
 line-top : (ts : List Bool) (top : Bool) → data_fits (data_from (ts ++ (top ∷ [])) []) ≡ true
-    → read_line (data_from ts []) (top_line top) ≡ some (data_from (ts ++ (top ∷ [])) [])
+    → read_line (data_from ts []) (top_line top) ≡ Some (data_from (ts ++ (top ∷ [])) [])
 unfolding read_line same
 line-top ts top h =
     ap (read_fields (data_from ts [])) (pieces-parted 9 ruleset_word _ (top-lacks 9 (omega arith) top))
     ∙ ap (add_top (data_from ts []) []) (top_read top)
-    ∙ ap (λ (t : Bool). select t (some (data_from (ts ++ (top ∷ [])) [])) none) h
+    ∙ ap (λ (t : Bool). select t (Some (data_from (ts ++ (top ∷ [])) [])) None) h
 
 -- ---- a listing's lines, before more
 
-pub read_next : (k : ℕ) (d e : Data) (line : Bytes) (ls : List Bytes) → 0 < length ls → read_line d line ≡ some e → read_from k d (line ∷ ls) ≡ read_from (suc k) e ls
+pub read_next : (k : ℕ) (d e : Data) (line : Bytes) (ls : List Bytes) → 0 < length ls → read_line d line ≡ Some e → read_from k d (line ∷ ls) ≡ read_from (suc k) e ls
 unfolding read_from
 read_next k d e line [] h q = absurd (omega arith)
 read_next k d e line (x ∷ ls) h q = ap (λ (o : Option Data). next k o (λ f. read_from (suc k) f (x ∷ ls))) q
@@ -142,13 +142,13 @@ listings-apart d e f g h = let q : good d ≡ good e = sym (read-listing d f) �
 
 -- ---- one line read: its data's lines are the lines so far and that line
 
-no-some : {A B : Type 0} {a : A} → none ≡ some a → B
+no-some : {A B : Type 0} {a : A} → None ≡ Some a → B
 no-some {A} {B} {a} h = let z : ◌≡◌ {A = ℕ} 0 1 = cc in absurd (omega arith)
 
-pub checked-is : (d e : Data) → checked d ≡ some e → (d ≡ e) × (data_fits e ≡ true)
+pub checked-is : (d e : Data) → checked d ≡ Some e → (d ≡ e) × (data_fits e ≡ true)
 checked-is d e h = go (data_fits d) refl h
   where
-    go : (t : Bool) → data_fits d ≡ t → select t (some d) none ≡ some e → (d ≡ e) × (data_fits e ≡ true)
+    go : (t : Bool) → data_fits d ≡ t → select t (Some d) None ≡ Some e → (d ≡ e) × (data_fits e ≡ true)
     go true f q = let is : d ≡ e = cc in (is, ap data_fits (sym is) ∙ f)
     go false f q = no-some q
 
@@ -161,10 +161,10 @@ map-append : {A B : Type 0} (f : A → B) (xs ys : List A) → map f (xs ++ ys) 
 map-append f [] ys = refl
 map-append f (x ∷ xs) ys = ap (λ (l : List _). f x ∷ l) (map-append f xs ys)
 
-added-rule : (d e : Data) (fs : List Bytes) (o : Option Rule) → rule_in fs ≡ o → add_rule d o ≡ some e → Added d (parted 9 (rule_word ∷ fs)) e
+added-rule : (d e : Data) (fs : List Bytes) (o : Option Rule) → rule_in fs ≡ o → add_rule d o ≡ Some e → Added d (parted 9 (rule_word ∷ fs)) e
 unfolding lines_of
-added-rule d e fs none q h = no-some h
-added-rule d e fs (some r) q h =
+added-rule d e fs None q h = no-some h
+added-rule d e fs (Some r) q h =
     let c = checked-is (with_rule d r) e h in
     record {
       lines =
@@ -175,11 +175,11 @@ added-rule d e fs (some r) q h =
       fits = c.1;
     }
 
-added-top : (d e : Data) (fs : List Bytes) (rs : List Rule) (o : Option Bool) → d.rules ≡ rs → top_in fs ≡ o → add_top d rs o ≡ some e
+added-top : (d e : Data) (fs : List Bytes) (rs : List Rule) (o : Option Bool) → d.rules ≡ rs → top_in fs ≡ o → add_top d rs o ≡ Some e
     → Added d (parted 9 (ruleset_word ∷ fs)) e
 unfolding lines_of
-added-top d e fs [] none n q h = no-some h
-added-top d e fs [] (some top) n q h =
+added-top d e fs [] None n q h = no-some h
+added-top d e fs [] (Some top) n q h =
     let c = checked-is (with_top d top) e h in
     record {
       lines =
@@ -193,17 +193,17 @@ added-top d e fs [] (some top) n q h =
     }
 added-top d e fs (r ∷ rs) o n q h = no-some h
 
-added-fields : (d e : Data) (fs : List Bytes) → read_fields d fs ≡ some e → Added d (parted 9 fs) e
+added-fields : (d e : Data) (fs : List Bytes) → read_fields d fs ≡ Some e → Added d (parted 9 fs) e
 added-fields d e [] h = no-some h
 added-fields d e (w ∷ fs) h = go (same w ruleset_word) (same w rule_word) refl refl h
   where
     go : (t u : Bool) → same w ruleset_word ≡ t → same w rule_word ≡ u
-        → select t (add_top d d.rules (top_in fs)) (select u (add_rule d (rule_in fs)) none) ≡ some e → Added d (parted 9 (w ∷ fs)) e
+        → select t (add_top d d.rules (top_in fs)) (select u (add_rule d (rule_in fs)) None) ≡ Some e → Added d (parted 9 (w ∷ fs)) e
     go true u p q k = subst (λ (x : Bytes). Added d (parted 9 (x ∷ fs)) e) (sym (same_true w ruleset_word p)) (added-top d e fs d.rules (top_in fs) refl refl k)
     go false true p q k = subst (λ (x : Bytes). Added d (parted 9 (x ∷ fs)) e) (sym (same_true w rule_word q)) (added-rule d e fs (rule_in fs) refl k)
     go false false p q k = no-some k
 
-pub line-added : (d e : Data) (line : Bytes) → read_line d line ≡ some e → Added d line e
+pub line-added : (d e : Data) (line : Bytes) → read_line d line ≡ Some e → Added d line e
 unfolding read_line
 line-added d e line h = subst (λ (x : Bytes). Added d x e) (parted-pieces 9 line) (added-fields d e (pieces 9 line) h)
 
@@ -227,8 +227,8 @@ lines-good (x ∷ (y ∷ ls)) k d e h = go (read_line d x) refl h (λ f g. lines
     go : (o : Option Data) → read_line d x ≡ o → next k o (λ f. read_from (suc k) f (y ∷ ls)) ≡ good e
         → ((f : Data) → read_from (suc k) f (y ∷ ls) ≡ good e → (lines_of f ++ (y ∷ ls) ≡ lines_of e ++ ([] ∷ [])) × (data_fits e ≡ true))
         → (lines_of d ++ (x ∷ (y ∷ ls)) ≡ lines_of e ++ ([] ∷ [])) × (data_fits e ≡ true)
-    go none q g ih = good-bad g
-    go (some f) q g ih =
+    go None q g ih = good-bad g
+    go (Some f) q g ih =
         let r = ih f g in
         (sym (append_assoc (lines_of d) (x ∷ []) (y ∷ ls)) ∙ ap (λ (l : List Bytes). l ++ (y ∷ ls)) (sym (line-added d f x q).lines) ∙ r.0, r.1)
 

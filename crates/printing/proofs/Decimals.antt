@@ -2,7 +2,7 @@
 use mathlib.Core.Path.{◌≡◌, refl, ap, ◌∙◌}
 use mathlib.Core.Bool.{Bool, true, false, not, ◌&&◌}
 use mathlib.Core.List.{[], ◌∷◌, ◌++◌}
-use mathlib.Core.Option.{none, some}
+use Rattle.std.specs.Prelude.{None, Some}
 use Prim.Native.Nat.{ℕ, zero, suc, ◌+◌, ◌*◌, ◌-◌, ◌/◌, ◌%◌, ◌≤◌, ◌<◌}
 use native.Mathlib.Omega.{arith}
 use lib.Dec.{ltb}
@@ -36,17 +36,17 @@ unfolding decimal
 value-decimal n = value-digits (suc n) n (omega arith)
 
 -- a number's decimal is read as that number, and what is read is a decimal
-pub number-decimal : (n : ℕ) → number_of (decimal n) ≡ some n
+pub number-decimal : (n : ℕ) → number_of (decimal n) ≡ Some n
 unfolding number_of
 number-decimal n =
-    ap (λ (v : ℕ). select (same (decimal n) (decimal v)) (some v) none) (value-decimal n)
-    ∙ ap (λ (t : Bool). select t (some n) none) (same_refl (decimal n))
+    ap (λ (v : ℕ). select (same (decimal n) (decimal v)) (Some v) None) (value-decimal n)
+    ∙ ap (λ (t : Bool). select t (Some n) None) (same_refl (decimal n))
 
-pub number_is : (x : Bytes) (n : ℕ) → number_of x ≡ some n → x ≡ decimal n
+pub number_is : (x : Bytes) (n : ℕ) → number_of x ≡ Some n → x ≡ decimal n
 unfolding number_of
 number_is x n h = go (same x (decimal (value x))) refl h
   where
-    go : (t : Bool) → same x (decimal (value x)) ≡ t → select t (some (value x)) none ≡ some n → x ≡ decimal n
+    go : (t : Bool) → same x (decimal (value x)) ≡ t → select t (Some (value x)) None ≡ Some n → x ≡ decimal n
     go true e q = same_true x (decimal (value x)) e ∙ ap decimal (cc)
     go false e q = let z : ◌≡◌ {A = ℕ} 0 1 = cc in absurd (omega arith)
 

@@ -3,7 +3,7 @@
 use mathlib.Core.Path.{◌≡◌, refl, sym, ap, ap₂, ◌∙◌}
 use mathlib.Core.Bool.{Bool, true, false, not, ◌&&◌}
 use mathlib.Core.List.{List, [], ◌∷◌, ◌++◌, map}
-use mathlib.Core.Option.{Option, none, some}
+use Rattle.std.specs.Prelude.{Option, None, Some}
 use Prim.Native.Nat.{ℕ, ◌≤◌, ◌<◌}
 use native.Mathlib.Omega.{arith}
 use lib.Dec.{eqb, leb}
@@ -21,87 +21,87 @@ use Rattle.printing.proofs.Pieces.{same_true, lacks-append}
 use Rattle.printing.proofs.Decimals.{number-decimal, number_is, decimal-lacks}
 
 -- nothing is something
-no-some : {A B : Type 0} {a : A} → none ≡ some a → B
+no-some : {A B : Type 0} {a : A} → None ≡ Some a → B
 no-some {A} {B} {a} h = let z : ◌≡◌ {A = ℕ} 0 1 = cc in absurd (omega arith)
 
 -- ---- parts
 
-pub part-read : (p : Part) → part_in (part_field p) ≡ some p
+pub part-read : (p : Part) → part_in (part_field p) ≡ Some p
 unfolding part_in same
 part-read (Exact b) =
-    ap (λ (t : Bool). select t (some Whitespace) (select (eqb b 101 && false) (some Expression) (some (Exact b)))) (and-false-right (eqb b 119) false refl)
-    ∙ ap (λ (t : Bool). select t (some Expression) (some (Exact b))) (and-false-right (eqb b 101) false refl)
+    ap (λ (t : Bool). select t (Some Whitespace) (select (eqb b 101 && false) (Some Expression) (Some (Exact b)))) (and-false-right (eqb b 119) false refl)
+    ∙ ap (λ (t : Bool). select t (Some Expression) (Some (Exact b))) (and-false-right (eqb b 101) false refl)
 part-read Whitespace = refl
 part-read Expression = refl
 part-read (Nested r) = ap nested_in (number-decimal r)
 
-nested_is : (x : Bytes) (o : Option ℕ) (p : Part) → number_of x ≡ o → nested_in o ≡ some p → sub_word ++ x ≡ part_field p
-nested_is x none p e h = no-some h
-nested_is x (some r) p e h =
+nested_is : (x : Bytes) (o : Option ℕ) (p : Part) → number_of x ≡ o → nested_in o ≡ Some p → sub_word ++ x ≡ part_field p
+nested_is x None p e h = no-some h
+nested_is x (Some r) p e h =
     let q : p ≡ Nested r = cc in
     ap (λ (l : Bytes). sub_word ++ l) (number_is x r e) ∙ ap part_field (sym q)
 
-other-is : (f : Bytes) (p : Part) → other_part f ≡ some p → f ≡ part_field p
+other-is : (f : Bytes) (p : Part) → other_part f ≡ Some p → f ≡ part_field p
 other-is [] p h = no-some h
 other-is (b ∷ []) p h = let q : Exact b ≡ p = cc in ap part_field q
 other-is (b ∷ (c ∷ [])) p h = no-some h
 other-is (b ∷ (c ∷ (e ∷ x))) p h = go (same (b ∷ c ∷ e ∷ []) sub_word) refl h
   where
-    go : (t : Bool) → same (b ∷ c ∷ e ∷ []) sub_word ≡ t → select t (nested_in (number_of x)) none ≡ some p → b ∷ c ∷ e ∷ x ≡ part_field p
+    go : (t : Bool) → same (b ∷ c ∷ e ∷ []) sub_word ≡ t → select t (nested_in (number_of x)) None ≡ Some p → b ∷ c ∷ e ∷ x ≡ part_field p
     go true q k = ap (λ (l : Bytes). l ++ x) (same_true (b ∷ c ∷ e ∷ []) sub_word q) ∙ nested_is x (number_of x) p refl k
     go false q k = no-some k
 
-part-is : (f : Bytes) (p : Part) → part_in f ≡ some p → f ≡ part_field p
+part-is : (f : Bytes) (p : Part) → part_in f ≡ Some p → f ≡ part_field p
 unfolding part_in
 part-is f p h = go (same f ws_word) (same f expr_word) refl refl h
   where
-    go : (t u : Bool) → same f ws_word ≡ t → same f expr_word ≡ u → select t (some Whitespace) (select u (some Expression) (other_part f)) ≡ some p → f ≡ part_field p
+    go : (t u : Bool) → same f ws_word ≡ t → same f expr_word ≡ u → select t (Some Whitespace) (select u (Some Expression) (other_part f)) ≡ Some p → f ≡ part_field p
     go true u e k q = let is : Whitespace ≡ p = cc in same_true f ws_word e ∙ ap part_field is
     go false true e k q = let is : Expression ≡ p = cc in same_true f expr_word k ∙ ap part_field is
     go false false e k q = other-is f p q
 
-parts-read : (ps : List Part) → parts_in (map part_field ps) ≡ some ps
+parts-read : (ps : List Part) → parts_in (map part_field ps) ≡ Some ps
 unfolding parts_in
 parts-read [] = refl
 parts-read (p ∷ ps) = ap₂ (both ◌∷◌) (part-read p) (parts-read ps)
 
-parts_is : (fs : List Bytes) (ps : List Part) → parts_in fs ≡ some ps → fs ≡ map part_field ps
+parts_is : (fs : List Bytes) (ps : List Part) → parts_in fs ≡ Some ps → fs ≡ map part_field ps
 unfolding parts_in
 parts_is [] ps h = let q : [] ≡ ps = cc in ap (map part_field) q
 parts_is (f ∷ fs) ps h = go (part_in f) (parts_in fs) refl refl h (λ qs e. parts_is fs qs e)
   where
-    go : (o : Option Part) (os : Option (List Part)) → part_in f ≡ o → parts_in fs ≡ os → both ◌∷◌ o os ≡ some ps
-        → ((qs : List Part) → parts_in fs ≡ some qs → fs ≡ map part_field qs) → f ∷ fs ≡ map part_field ps
-    go none os e k q ih = no-some q
-    go (some p) none e k q ih = no-some q
-    go (some p) (some qs) e k q ih = let is : p ∷ qs ≡ ps = cc in ap₂ ◌∷◌ (part-is f p e) (ih qs k) ∙ ap (map part_field) is
+    go : (o : Option Part) (os : Option (List Part)) → part_in f ≡ o → parts_in fs ≡ os → both ◌∷◌ o os ≡ Some ps
+        → ((qs : List Part) → parts_in fs ≡ Some qs → fs ≡ map part_field qs) → f ∷ fs ≡ map part_field ps
+    go None os e k q ih = no-some q
+    go (Some p) None e k q ih = no-some q
+    go (Some p) (Some qs) e k q ih = let is : p ∷ qs ≡ ps = cc in ap₂ ◌∷◌ (part-is f p e) (ih qs k) ∙ ap (map part_field) is
 
 -- ---- rules and rulesets
 
-pub rule-read : (r : Rule) → rule_in (decimal r.set ∷ map part_field r.parts) ≡ some r
+pub rule-read : (r : Rule) → rule_in (decimal r.set ∷ map part_field r.parts) ≡ Some r
 rule-read r = ap₂ (both rule) (number-decimal r.set) (parts-read r.parts)
 
-pub rule-is : (fs : List Bytes) (r : Rule) → rule_in fs ≡ some r → rule_word ∷ fs ≡ rule_fields r
+pub rule-is : (fs : List Bytes) (r : Rule) → rule_in fs ≡ Some r → rule_word ∷ fs ≡ rule_fields r
 rule-is [] r h = no-some h
 rule-is (f ∷ fs) r h = go (number_of f) (parts_in fs) refl refl h
   where
-    go : (o : Option ℕ) (os : Option (List Part)) → number_of f ≡ o → parts_in fs ≡ os → both rule o os ≡ some r → rule_word ∷ f ∷ fs ≡ rule_fields r
-    go none os e k q = no-some q
-    go (some n) none e k q = no-some q
-    go (some n) (some ps) e k q =
+    go : (o : Option ℕ) (os : Option (List Part)) → number_of f ≡ o → parts_in fs ≡ os → both rule o os ≡ Some r → rule_word ∷ f ∷ fs ≡ rule_fields r
+    go None os e k q = no-some q
+    go (Some n) None e k q = no-some q
+    go (Some n) (Some ps) e k q =
         let is : rule n ps ≡ r = cc in
         ap₂ (λ (x : Bytes) (xs : List Bytes). rule_word ∷ x ∷ xs) (number_is f n e) (parts_is fs ps k) ∙ ap rule_fields is
 
-pub top_read : (top : Bool) → top_in (top_field top ∷ []) ≡ some top
+pub top_read : (top : Bool) → top_in (top_field top ∷ []) ≡ Some top
 unfolding same
 top_read true = refl
 top_read false = refl
 
-pub top-is : (fs : List Bytes) (top : Bool) → top_in fs ≡ some top → ruleset_word ∷ fs ≡ top_fields top
+pub top-is : (fs : List Bytes) (top : Bool) → top_in fs ≡ Some top → ruleset_word ∷ fs ≡ top_fields top
 top-is [] top h = no-some h
 top-is (f ∷ []) top h = go (same f top_word) (same f nested_word) refl refl h
   where
-    go : (t u : Bool) → same f top_word ≡ t → same f nested_word ≡ u → select t (some true) (select u (some false) none) ≡ some top
+    go : (t u : Bool) → same f top_word ≡ t → same f nested_word ≡ u → select t (Some true) (select u (Some false) None) ≡ Some top
         → ruleset_word ∷ f ∷ [] ≡ top_fields top
     go true u e k q = let is : true ≡ top = cc in ap (λ (x : Bytes). ruleset_word ∷ x ∷ []) (same_true f top_word e) ∙ ap top_fields is
     go false true e k q = let is : false ≡ top = cc in ap (λ (x : Bytes). ruleset_word ∷ x ∷ []) (same_true f nested_word k) ∙ ap top_fields is

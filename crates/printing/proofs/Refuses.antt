@@ -3,7 +3,7 @@ use mathlib.Core.Path.{◌≡◌, refl, sym, ap, ◌∙◌, subst}
 use mathlib.Core.Logic.{inl, inr}
 use mathlib.Core.Bool.{Bool, true, false, ◌&&◌}
 use mathlib.Core.List.{List, [], ◌∷◌, ◌++◌, append-nil, append_assoc}
-use mathlib.Core.Option.{Option, none, some}
+use Rattle.std.specs.Prelude.{Option, None, Some}
 use Prim.Native.Nat.{ℕ, suc, ◌≤◌, ◌<◌}
 use native.Mathlib.Omega.{arith}
 use native.Mathlib.Decide.{dec_le}
@@ -39,13 +39,13 @@ through d ls h (inl e) =
     ap (λ (x : Data). read_from 0 nothing (lines_of x ++ ls)) e ∙ ap (λ (x : Data). read_from (length (lines_of x)) x ls) (sym e)
 through d ls h (inr f) = read-lines d ls h f
 
-pub stops : (k : ℕ) (d : Data) (x : Bytes) (ls : List Bytes) → 0 < length ls → read_line d x ≡ none → read_from k d (x ∷ ls) ≡ bad k
+pub stops : (k : ℕ) (d : Data) (x : Bytes) (ls : List Bytes) → 0 < length ls → read_line d x ≡ None → read_from k d (x ∷ ls) ≡ bad k
 unfolding read_from
 stops k d x [] h q = absurd (omega arith)
 stops k d x (y ∷ ls) h q = ap (λ (o : Option Data). next k o (λ e. read_from (suc k) e (y ∷ ls))) q
 
 -- with a line that is not read, the lines so far begin no listing
-begins-none : (d : Data) (x : Bytes) → Reached d → lacks 10 x ≡ true → read_line d x ≡ none → Begins (ended (lines_of d ++ (x ∷ []))) → ⊥
+begins-none : (d : Data) (x : Bytes) → Reached d → lacks 10 x ≡ true → read_line d x ≡ None → Begins (ended (lines_of d ++ (x ∷ []))) → ⊥
 unfolding read every
 begins-none d x r l q b =
     good-bad
@@ -81,12 +81,12 @@ module _ (text : Bytes) (other : (d : Data) → data_fits d ≡ true → listing
       go : (o : Option Data) → read_line d x ≡ o → next k o (λ f. read_from (suc k) f (y ∷ ls)) ≡ bad n
           → ((f : Data) → Reached f → length (lines_of f) ≡ suc k → text ≡ parted 10 (lines_of f ++ (y ∷ ls)) → read_from (suc k) f (y ∷ ls) ≡ bad n → FirstBad text n)
           → FirstBad text n
-      go none q g ih =
+      go None q g ih =
           let is : length (lines_of d) ≡ n = cc in
           subst (FirstBad text) is
           (bad_line (lines_of d) x (parted 10 (y ∷ ls)) (every_append (lacks 10) (lines_of d) (x ∷ []) (lack d r) one)
           (whole ∙ parted-ended (lines_of d ++ (x ∷ [])) y ls) (begins d r) (begins-none d x r (and_left (lacks 10 x) _ l) q))
-      go (some f) q g ih =
+      go (Some f) q g ih =
           let a = line-added d f x q in
           ih f (inr a.fits) (ap length a.lines ∙ omega (arith, length-append (lines_of d) (x ∷ []), e))
           (whole ∙ ap (λ (m : List Bytes). parted 10 (m ++ (y ∷ ls))) (sym a.lines)) g

@@ -1,7 +1,6 @@
 -- Reading a listing, line by line: the data, or the first bad line's number. No promise names it: it is proved to undo printing,
 -- and to stop at the first bad line, and the code is proved to follow it.
-use Rattle.std.specs.Prelude.{◌≡◌, ◌⊎◌, Bool, true, false, ◌&&◌, List, [], ◌∷◌, ◌++◌, ℕ, suc, ◌+◌, ◌*◌, ◌-◌, eqb}
-use Rattle.std.proofs.Math.Option.{Option, none, some}
+use Rattle.std.specs.Prelude.{◌≡◌, ◌⊎◌, Bool, true, false, ◌&&◌, List, [], ◌∷◌, ◌++◌, ℕ, suc, ◌+◌, ◌*◌, ◌-◌, eqb, Option, None, Some}
 use Rattle.plain.specs.Choice.{select}
 use Rattle.defs.specs.declared.ruledef.Part.{Part}
 use Rattle.defs.specs.declared.ruledef.Part.TheVariants.{Exact, Whitespace, Expression, Nested}
@@ -33,39 +32,39 @@ abbrev pub value : Bytes → ℕ
 value bs = value_from 0 bs
 
 unfoldable pub number_of : Bytes → Option ℕ
-number_of bs = select (same bs (decimal (value bs))) (some (value bs)) none
+number_of bs = select (same bs (decimal (value bs))) (Some (value bs)) None
 
 -- what a field says of a part
 abbrev pub nested_in : Option ℕ → Option Part
-nested_in none = none
-nested_in (some r) = some (Nested r)
+nested_in None = None
+nested_in (Some r) = Some (Nested r)
 
 abbrev pub other_part : Bytes → Option Part
-other_part [] = none
-other_part (b ∷ []) = some (Exact b)
-other_part (b ∷ (c ∷ [])) = none
-other_part (b ∷ (c ∷ (e ∷ bs))) = select (same (b ∷ c ∷ e ∷ []) sub_word) (nested_in (number_of bs)) none
+other_part [] = None
+other_part (b ∷ []) = Some (Exact b)
+other_part (b ∷ (c ∷ [])) = None
+other_part (b ∷ (c ∷ (e ∷ bs))) = select (same (b ∷ c ∷ e ∷ []) sub_word) (nested_in (number_of bs)) None
 
 unfoldable pub part_in : Bytes → Option Part
-part_in f = select (same f ws_word) (some Whitespace) (select (same f expr_word) (some Expression) (other_part f))
+part_in f = select (same f ws_word) (Some Whitespace) (select (same f expr_word) (Some Expression) (other_part f))
 
 abbrev pub both : {A B C : Type 0} → (A → B → C) → Option A → Option B → Option C
-both f none o = none
-both f (some a) none = none
-both f (some a) (some b) = some (f a b)
+both f None o = None
+both f (Some a) None = None
+both f (Some a) (Some b) = Some (f a b)
 
 unfoldable pub parts_in : List Bytes → Option (List Part)
-parts_in [] = some []
+parts_in [] = Some []
 parts_in (f ∷ fs) = both ◌∷◌ (part_in f) (parts_in fs)
 
 abbrev pub top_in : List Bytes → Option Bool
-top_in [] = none
-top_in (f ∷ []) = select (same f top_word) (some true) (select (same f nested_word) (some false) none)
-top_in (f ∷ (g ∷ fs)) = none
+top_in [] = None
+top_in (f ∷ []) = select (same f top_word) (Some true) (select (same f nested_word) (Some false) None)
+top_in (f ∷ (g ∷ fs)) = None
 
 -- data with one more ruleset (none comes after a rule), or rule, if that is within the limits
 abbrev pub checked : Data → Option Data
-checked d = select (data_fits d) (some d) none
+checked d = select (data_fits d) (Some d) None
 
 abbrev pub with_top : Data → Bool → Data
 with_top d top = record { tops = d.tops ++ (top ∷ []); rules = d.rules }
@@ -74,23 +73,23 @@ abbrev pub with_rule : Data → Rule → Data
 with_rule d r = record { tops = d.tops; rules = d.rules ++ (r ∷ []) }
 
 abbrev pub add_top : Data → List Rule → Option Bool → Option Data
-add_top d [] none = none
-add_top d [] (some top) = checked (with_top d top)
-add_top d (r ∷ rs) o = none
+add_top d [] None = None
+add_top d [] (Some top) = checked (with_top d top)
+add_top d (r ∷ rs) o = None
 
 abbrev pub add_rule : Data → Option Rule → Option Data
-add_rule d none = none
-add_rule d (some r) = checked (with_rule d r)
+add_rule d None = None
+add_rule d (Some r) = checked (with_rule d r)
 
 -- one more line, by its fields
 abbrev pub rule_in : List Bytes → Option Rule
-rule_in [] = none
+rule_in [] = None
 rule_in (f ∷ fs) = both rule (number_of f) (parts_in fs)
 
 abbrev pub read_fields : Data → List Bytes → Option Data
-read_fields d [] = none
+read_fields d [] = None
 read_fields d (w ∷ fs) =
-    select (same w ruleset_word) (add_top d d.rules (top_in fs)) (select (same w rule_word) (add_rule d (rule_in fs)) none)
+    select (same w ruleset_word) (add_top d d.rules (top_in fs)) (select (same w rule_word) (add_rule d (rule_in fs)) None)
 
 unfoldable pub read_line : Data → Bytes → Option Data
 read_line d line = read_fields d (pieces 9 line)
@@ -101,8 +100,8 @@ pub data Read : Type 0 where
   bad : ℕ → Read
 
 abbrev pub next : ℕ → Option Data → (Data → Read) → Read
-next k none go = bad k
-next k (some d) go = go d
+next k None go = bad k
+next k (Some d) go = go d
 
 -- from line k on; the last piece follows the last ended line, and is empty
 unfoldable pub read_from : ℕ → Data → List Bytes → Read

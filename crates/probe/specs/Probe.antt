@@ -1,6 +1,5 @@
 -- The C structs' fields as the walker's values.
-use Rattle.std.specs.Prelude.{Bool, ℕ}
-use Rattle.std.proofs.Math.Option.{Option, none, some}
+use Rattle.std.specs.Prelude.{Bool, ℕ, Option, None, Some}
 use Rattle.plain.specs.Choice.{select}
 use Rattle.syntax.specs.declared.walker.Walker.{Walker}
 use Rattle.probe.specs.declared.ProbeWalker.{ProbeWalker}
@@ -20,5 +19,5 @@ stepped s = record { found = select s.0 1 0; place = s.1.cursor }
 
 -- the cut's place, if there is one
 abbrev pub placed : Option ℕ → ProbePlace
-placed (some p) = record { found = 1; place = p }
-placed none = record { found = 0; place = 0 }
+placed (Some p) = record { found = 1; place = p }
+placed None = record { found = 0; place = 0 }

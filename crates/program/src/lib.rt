@@ -4,8 +4,7 @@
 // stands in its row, takes no words and stops nothing.
 #![tactic(auto)]
 
-ghost use Rattle.std.specs.Prelude.{◌≡◌, true, ◌≤◌, length};
-ghost use Rattle.std.proofs.Math.Option.{none};
+ghost use Rattle.std.specs.Prelude.{◌≡◌, true, ◌≤◌, length, None};
 ghost use Rattle.defs.specs.Table.{table_fits};
 ghost use Rattle.defs.specs.Ruledef.{starts_of};
 ghost use Rattle.line.specs.Line.{fault_at};
@@ -115,7 +114,7 @@ fn choose_rules(
     rules: &mut [u16],
 ) -> usize
     requires table_value { table_fits table.now ≡ true }
-    requires line_value { fault_at line.now ≡ none }
+    requires line_value { fault_at line.now ≡ None }
     requires ordered { Ordered how table.now order.now rules.old tops }
     ensures { ChosenFor how table.now line.now order.now rules.new tops result }
 {

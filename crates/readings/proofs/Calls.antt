@@ -1,7 +1,7 @@
 -- The whole call, case by case: each number exactly in its case, and demand 3 for scan and lookup.
 use mathlib.Core.Path.{◌≡◌, refl, ◌∙◌, ap}
 use mathlib.Core.Bool.{true, false}
-use mathlib.Core.Option.{none, some}
+use Rattle.std.specs.Prelude.{None, Some}
 use mathlib.Core.List.Memᴰ
 use mathlib.Core.List.{List, [], ◌∷◌, map}
 use Prim.Native.Nat.{ℕ, ◌-◌, ◌≤◌, ◌<◌}
@@ -40,19 +40,19 @@ module _ (order : Scene → List (ℕ × ℕ)) (t line sheet : List ℕ) (budget
   unfolding call_with
   bad-table e = rw (call_with, e)
 
-  pub bad-line : (p : ℕ) → table_fits t ≡ true → fault_at line ≡ some p → answer ≡ refused_at 3 p b
+  pub bad-line : (p : ℕ) → table_fits t ≡ true → fault_at line ≡ Some p → answer ≡ refused_at 3 p b
   unfolding call_with
   bad-line p e f = rw (call_with, e, f)
 
-  pub bad-sheet : table_fits t ≡ true → fault_at line ≡ none → sheet_fits sheet (length line) ≡ false → answer ≡ refused_at 4 0 b
+  pub bad-sheet : table_fits t ≡ true → fault_at line ≡ None → sheet_fits sheet (length line) ≡ false → answer ≡ refused_at 4 0 b
   unfolding call_with
   bad-sheet e f g = rw (call_with, e, f, g)
 
-  pub bad-budget : table_fits t ≡ true → fault_at line ≡ none → sheet_fits sheet (length line) ≡ true → budget_fits budget ≡ false → answer ≡ refused_at 5 0 b
+  pub bad-budget : table_fits t ≡ true → fault_at line ≡ None → sheet_fits sheet (length line) ≡ true → budget_fits budget ≡ false → answer ≡ refused_at 5 0 b
   unfolding call_with
   bad-budget e f g h = rw (call_with, e, f, g, h)
 
-  pub bad-base : table_fits t ≡ true → fault_at line ≡ none → sheet_fits sheet (length line) ≡ true → budget_fits budget ≡ true → base_fits base ≡ false → answer ≡ refused_at 19 0 b
+  pub bad-base : table_fits t ≡ true → fault_at line ≡ None → sheet_fits sheet (length line) ≡ true → budget_fits budget ≡ true → base_fits base ≡ false → answer ≡ refused_at 19 0 b
   unfolding call_with
   bad-base e f g h i = rw (call_with, e, f, g, h, i)
 

@@ -2,7 +2,8 @@
 use mathlib.Core.Path.{◌≡◌, refl, sym, ap, ◌∙◌, subst}
 use mathlib.Core.Bool.{true, false}
 use mathlib.Core.List.{List, [], ◌∷◌, ◌++◌, Memᴰ}
-use mathlib.Core.Option.{Option, none, some, some_inj, none-ne-some}
+use Rattle.std.specs.Prelude.{Option, None, Some}
+use Rattle.plain.proofs.Options.{some_inj, none-ne-some}
 use Prim.Native.Nat.{ℕ}
 use borrow.Author.Tests.{eqb-true, eqb-false, eq-eqb, ne_eqb}
 use Rattle.plain.specs.Lists.{Apart}
@@ -27,40 +28,40 @@ other_place : (s : Scene) (l d e : ℕ) → (SamePlace s l d e → ⊥) → same
 other_place s l d e n = ne_eqb (useful_at s l d) (useful_at s l e) (λ q. n (place_same s l d e (eq-eqb (useful_at s l d) (useful_at s l e) q)))
 
 module _ (s : Scene) (law : Lawful s) (l c : ℕ) (ps : List Part) where
-  under-cut : (o : Option ℕ) (e : ℕ) → cut_for s l c ps ≡ o → free_under s.free c o ≡ some e → (m : ℕ) × Cut-for s l c ps m × (s.free c m ≡ some e)
-  under-cut none e p q = absurd (none-ne-some e q)
-  under-cut (some m) e p q = (m, cut-declared s l c law ps m p, q)
+  under-cut : (o : Option ℕ) (e : ℕ) → cut_for s l c ps ≡ o → free_under s.free c o ≡ Some e → (m : ℕ) × Cut-for s l c ps m × (s.free c m ≡ Some e)
+  under-cut None e p q = absurd (none-ne-some e q)
+  under-cut (Some m) e p q = (m, cut-declared s l c law ps m p, q)
 
-  cut-under : (m e : ℕ) → Cut-for s l c ps m → s.free c m ≡ some e → free_under s.free c (cut_for s l c ps) ≡ some e
+  cut-under : (m e : ℕ) → Cut-for s l c ps m → s.free c m ≡ Some e → free_under s.free c (cut_for s l c ps) ≡ Some e
   cut-under m e k q = ap (free_under s.free c) (cut-found s l c law ps m k) ∙ q
 
   -- ---- listed, so declared
 
   module _ (e : ℕ) where
     greedy-declared : (g : Option ℕ) → s.greedy c l ≡ g
-        → ((d : ℕ) → s.free c l ≡ some d → SamePlace s l d e → ⊥) → ((m d : ℕ) → Cut-for s l c ps m → s.free c m ≡ some d → SamePlace s l d e → ⊥)
+        → ((d : ℕ) → s.free c l ≡ Some d → SamePlace s l d e → ⊥) → ((m d : ℕ) → Cut-for s l c ps m → s.free c m ≡ Some d → SamePlace s l d e → ⊥)
         → First (same_end s.line l) (list_of g) e → Candidate s l c ps e
-    greedy-declared none p no-free no_cut x = elim x [ ]
-    greedy-declared (some z) p no-free no_cut here = greedily p no-free no_cut
-    greedy-declared (some z) p no-free no_cut (there t x) = elim x [ ]
+    greedy-declared None p no-free no_cut x = elim x [ ]
+    greedy-declared (Some z) p no-free no_cut here = greedily p no-free no_cut
+    greedy-declared (Some z) p no-free no_cut (there t x) = elim x [ ]
 
     cut-next : (b g : Option ℕ) → free_under s.free c (cut_for s l c ps) ≡ b → s.greedy c l ≡ g
-        → ((d : ℕ) → s.free c l ≡ some d → SamePlace s l d e → ⊥)
+        → ((d : ℕ) → s.free c l ≡ Some d → SamePlace s l d e → ⊥)
         → First (same_end s.line l) (list_of b ++ list_of g) e → Candidate s l c ps e
-    cut-next none g p q no-free f =
+    cut-next None g p q no-free f =
         greedy-declared g q no-free (λ m d k r x. absurd (none-ne-some d (sym p ∙ cut-under m d k r))) f
-    cut-next (some y) g p q no-free here = let (m, k, r) = under-cut (cut_for s l c ps) y refl p in cut_short k r no-free
-    cut-next (some y) g p q no-free (there t f) =
+    cut-next (Some y) g p q no-free here = let (m, k, r) = under-cut (cut_for s l c ps) y refl p in cut_short k r no-free
+    cut-next (Some y) g p q no-free (there t f) =
         greedy-declared g q no-free
-        (λ m d k r x. place_other s l y e t (subst (λ (n : ℕ). SamePlace s l n e) (sym (some_inj.0 (sym p ∙ cut-under m d k r))) x))
+        (λ m d k r x. place_other s l y e t (subst (λ (n : ℕ). SamePlace s l n e) (sym (some_inj (sym p ∙ cut-under m d k r))) x))
         f
 
     declared : (a b g : Option ℕ) → s.free c l ≡ a → free_under s.free c (cut_for s l c ps) ≡ b → s.greedy c l ≡ g
         → First (same_end s.line l) (list_of a ++ (list_of b ++ list_of g)) e → Candidate s l c ps e
-    declared none b g o p q f = cut-next b g p q (λ d r x. absurd (none-ne-some d (sym o ∙ r))) f
-    declared (some x) b g o p q here = freely o
-    declared (some x) b g o p q (there t f) =
-        cut-next b g p q (λ d r y. place_other s l x e t (subst (λ (n : ℕ). SamePlace s l n e) (sym (some_inj.0 (sym o ∙ r))) y)) f
+    declared None b g o p q f = cut-next b g p q (λ d r x. absurd (none-ne-some d (sym o ∙ r))) f
+    declared (Some x) b g o p q here = freely o
+    declared (Some x) b g o p q (there t f) =
+        cut-next b g p q (λ d r y. place_other s l x e t (subst (λ (n : ℕ). SamePlace s l n e) (sym (some_inj (sym o ∙ r))) y)) f
 
   pub end-declared : {e : ℕ} → Memᴰ e (ends s l c ps) → Candidate s l c ps e
   unfolding ends candidates
@@ -68,17 +69,17 @@ module _ (s : Scene) (law : Lawful s) (l c : ℕ) (ps : List Part) where
 
   -- ---- declared, so listed
 
-  skipped : (o : Option ℕ) (xs : List ℕ) (e : ℕ) → ((d : ℕ) → o ≡ some d → SamePlace s l d e → ⊥) → First (same_end s.line l) xs e → First (same_end s.line l) (list_of o ++ xs) e
-  skipped none xs e n f = f
-  skipped (some x) xs e n f = there (other_place s l x e (n x refl)) f
+  skipped : (o : Option ℕ) (xs : List ℕ) (e : ℕ) → ((d : ℕ) → o ≡ Some d → SamePlace s l d e → ⊥) → First (same_end s.line l) xs e → First (same_end s.line l) (list_of o ++ xs) e
+  skipped None xs e n f = f
+  skipped (Some x) xs e n f = there (other_place s l x e (n x refl)) f
 
-  listed-first : (o : Option ℕ) (xs : List ℕ) (e : ℕ) → o ≡ some e → First (same_end s.line l) (list_of o ++ xs) e
-  listed-first none xs e p = absurd (none-ne-some e p)
-  listed-first (some x) xs e p = subst (λ (n : ℕ). First (same_end s.line l) (x ∷ xs) n) (some_inj.0 p) here
+  listed-first : (o : Option ℕ) (xs : List ℕ) (e : ℕ) → o ≡ Some e → First (same_end s.line l) (list_of o ++ xs) e
+  listed-first None xs e p = absurd (none-ne-some e p)
+  listed-first (Some x) xs e p = subst (λ (n : ℕ). First (same_end s.line l) (x ∷ xs) n) (some_inj p) here
 
-  listed-last : (o : Option ℕ) (e : ℕ) → o ≡ some e → First (same_end s.line l) (list_of o) e
-  listed-last none e p = absurd (none-ne-some e p)
-  listed-last (some x) e p = subst (λ (n : ℕ). First (same_end s.line l) (x ∷ []) n) (some_inj.0 p) here
+  listed-last : (o : Option ℕ) (e : ℕ) → o ≡ Some e → First (same_end s.line l) (list_of o) e
+  listed-last None e p = absurd (none-ne-some e p)
+  listed-last (Some x) e p = subst (λ (n : ℕ). First (same_end s.line l) (x ∷ []) n) (some_inj p) here
 
   pub end-listed : {e : ℕ} → Candidate s l c ps e → Memᴰ e (ends s l c ps)
   unfolding ends candidates

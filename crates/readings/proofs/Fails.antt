@@ -3,7 +3,7 @@
 use mathlib.Core.Path.{◌≡◌, refl, sym, ◌∙◌, ap}
 use mathlib.Core.Logic.{inl, inr}
 use mathlib.Core.Bool.{Bool, true, false, not, ◌&&◌}
-use mathlib.Core.Option.{Option, none, some}
+use Rattle.std.specs.Prelude.{Option, None, Some}
 use mathlib.Core.List.{List, [], ◌∷◌, map}
 use Prim.Native.Nat.{ℕ, zero, suc, ◌+◌, ◌-◌, ◌≤◌, ◌<◌}
 use native.Mathlib.Numerals.{add-one}
@@ -85,18 +85,18 @@ module _ (s : Scene) (below : Below) (fin : ℕ → Bool) (l : ℕ) (within : l 
     went : Bool → Option ℕ
     went b = went_to (select b (true, past_place at (walker_at s.line l c)) (false, walker_at s.line l c))
 
-    went-is : (t : Bool) → went (true && t) ≡ select t (some (at + 1)) none
+    went-is : (t : Bool) → went (true && t) ≡ select t (Some (at + 1)) None
     unfolding went
     went-is true = refl
     went-is false = refl
 
-    past-byte : at < l → (x : ℕ) (t : Bool) → same_letter (byte_at s.line at) x ≡ t → exactly s l c x ≡ select t (some (at + 1)) none
+    past-byte : at < l → (x : ℕ) (t : Bool) → same_letter (byte_at s.line at) x ≡ t → exactly s l c x ≡ select t (Some (at + 1)) None
     unfolding exactly expect_char held went
     past-byte h x t e =
         let i : ltb at (walker_at s.line l c).limit ≡ true = lt-ltb at (walker_at s.line l c).limit (omega (arith, within)) in
         ap (λ (b : Bool). went (b && same_letter (byte_at s.line at) x)) i ∙ ap (λ (b : Bool). went (true && b)) e ∙ went-is t
 
-    past_end : l ≤ at → (x : ℕ) → exactly s l c x ≡ none
+    past_end : l ≤ at → (x : ℕ) → exactly s l c x ≡ None
     unfolding exactly expect_char held
     past_end h x = let i : ltb at (walker_at s.line l c).limit ≡ false = le-ltb at (walker_at s.line l c).limit (omega arith) in rw i
 
@@ -124,14 +124,14 @@ module _ (s : Scene) (below : Below) (fin : ℕ → Bool) (l : ℕ) (within : l 
   Fails ps k c = walk s below fin ps l c ≡ visited (suc (same ps k c)) (give [])
 
   module _ (x : ℕ) (ps : List Part) (k c : ℕ) (inside : c ≤ l) where
-    exact-stays : exactly s l c x ≡ none → same (Exact x ∷ ps) (suc k) c ≡ 0 → Fails (Exact x ∷ ps) (suc k) c
+    exact-stays : exactly s l c x ≡ None → same (Exact x ∷ ps) (suc k) c ≡ 0 → Fails (Exact x ∷ ps) (suc k) c
     unfolding visited
-    exact-stays p q = walk-exact x ps k c inside none p ∙ ap (λ (m : ℕ). visit (visited m (give []))) (sym q)
+    exact-stays p q = walk-exact x ps k c inside None p ∙ ap (λ (m : ℕ). visit (visited m (give []))) (sym q)
 
     exact-goes : at c inside < l → same_letter (byte_at s.line (at c inside)) x ≡ true → Fails ps k (at c inside + 1) → Fails (Exact x ∷ ps) (suc k) c
     unfolding visited
     exact-goes h e f =
-        walk-exact x ps k c inside (some (at c inside + 1)) (past-byte c inside h x true e) ∙ ap visit f
+        walk-exact x ps k c inside (Some (at c inside + 1)) (past-byte c inside h x true e) ∙ ap visit f
         ∙ ap (λ (m : ℕ). visit (visited m (give []))) (sym (same_byte x ps k c inside h true e))
 
     exact-fails : same (Exact x ∷ ps) (suc k) c < suc (length (take k (leading ps)))

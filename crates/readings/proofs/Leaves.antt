@@ -5,7 +5,8 @@ use mathlib.Core.Logic.{◌⊎◌, inl, inr, ⊎_elim}
 use mathlib.Core.Bool.{Bool, true, false, ◌&&◌}
 use mathlib.Core.List.Memᴰ
 use mathlib.Core.List.{List, [], ◌∷◌, Memᴰ}
-use mathlib.Core.Option.{Option, none, some, some_inj, none-ne-some}
+use Rattle.std.specs.Prelude.{Option, None, Some}
+use Rattle.plain.proofs.Options.{some_inj, none-ne-some}
 use Prim.Native.Nat.{ℕ, ◌+◌, ◌<◌, min}
 use native.Mathlib.Nat.{zero-add}
 use native.Mathlib.Omega.{arith}
@@ -25,15 +26,15 @@ use Rattle.readings.specs.Walk.{useful_at, went_to, exactly, is_gap, lookahead, 
 
 -- ---- lookahead
 
-pub ahead-declared : (ps : List Part) (x : ℕ) → lookahead ps ≡ some x → Ahead ps x
+pub ahead-declared : (ps : List Part) (x : ℕ) → lookahead ps ≡ Some x → Ahead ps x
 unfolding lookahead
 ahead-declared [] x e = absurd (none-ne-some x e)
-ahead-declared (Exact y ∷ ps) x e = subst (λ (z : ℕ). Ahead (Exact y ∷ ps) z) (some_inj.0 e) next
+ahead-declared (Exact y ∷ ps) x e = subst (λ (z : ℕ). Ahead (Exact y ∷ ps) z) (some_inj e) next
 ahead-declared (Whitespace ∷ ps) x e = past_space (ahead-declared ps x e)
 ahead-declared (Expression ∷ ps) x e = absurd (none-ne-some x e)
 ahead-declared (Nested r ∷ ps) x e = absurd (none-ne-some x e)
 
-pub ahead-found : {ps : List Part} {x : ℕ} → Ahead ps x → lookahead ps ≡ some x
+pub ahead-found : {ps : List Part} {x : ℕ} → Ahead ps x → lookahead ps ≡ Some x
 unfolding lookahead
 ahead-found next = refl
 ahead-found (past_space a) = ahead-found a
@@ -60,7 +61,7 @@ module _ (s : Scene) (l c : ℕ) where
   abbrev leads : Bool → Option ℕ
   leads b = went_to (select b (true, past_place there (walker_at s.line l c)) (false, walker_at s.line l c))
 
-  pub exactly-declared : (x d : ℕ) → exactly s l c x ≡ some d → Exactly-at s l c x d
+  pub exactly-declared : (x d : ℕ) → exactly s l c x ≡ Some d → Exactly-at s l c x d
   unfolding exactly expect_char
   exactly-declared x d e = go (tested (stands x))
     where
@@ -70,17 +71,17 @@ module _ (s : Scene) (l c : ℕ) where
         useful = useful-found;
         below = ltb-true there most (and_left (ltb there most) (same_letter (byte_at s.line there) x) t);
         equal = and_right (ltb there most) (same_letter (byte_at s.line there) x) t;
-        past = sym (some_inj.0 (sym (ap leads t) ∙ e));
+        past = sym (some_inj (sym (ap leads t) ∙ e));
       }
       go (inr f) = absurd (none-ne-some d (sym (ap leads f) ∙ e))
 
-  pub exactly-found : (x d : ℕ) → Exactly-at s l c x d → exactly s l c x ≡ some d
+  pub exactly-found : (x d : ℕ) → Exactly-at s l c x d → exactly s l c x ≡ Some d
   unfolding exactly expect_char
   exactly-found x d e =
       let at = useful-only e.useful in
       let below : there < most = subst (λ (p : ℕ). p < most) at e.below in
       let equal : same_letter (byte_at s.line there) x ≡ true = subst (λ (p : ℕ). same_letter (byte_at s.line p) x ≡ true) at e.equal in
-      ap leads (and_both _ _ (lt-ltb _ _ below) equal) ∙ ap {B = Option ℕ} some (ap (λ (p : ℕ). p + 1) (sym at) ∙ sym e.past)
+      ap leads (and_both _ _ (lt-ltb _ _ below) equal) ∙ ap {B = Option ℕ} Some (ap (λ (p : ℕ). p + 1) (sym at) ∙ sym e.past)
 
   -- ---- whitespace part
 
@@ -106,15 +107,15 @@ module _ (s : Scene) (l c : ℕ) where
   -- ---- cut and limits
 
   module _ (law : Lawful s) (ps : List Part) where
-    pub cut-declared : (m : ℕ) → cut_for s l c ps ≡ some m → Cut-for s l c ps m
+    pub cut-declared : (m : ℕ) → cut_for s l c ps ≡ Some m → Cut-for s l c ps m
     unfolding cut_for
     cut-declared m e = go (lookahead ps) refl e
       where
-        go : (o : Option ℕ) → lookahead ps ≡ o → cut_by s l c o ≡ some m → Cut-for s l c ps m
-        go none p q = absurd (none-ne-some m q)
-        go (some x) p q = record { char = x; ahead = ahead-declared ps x p; cuts = (law.cut_at x l c m).0 q }
+        go : (o : Option ℕ) → lookahead ps ≡ o → cut_by s l c o ≡ Some m → Cut-for s l c ps m
+        go None p q = absurd (none-ne-some m q)
+        go (Some x) p q = record { char = x; ahead = ahead-declared ps x p; cuts = (law.cut_at x l c m).0 q }
 
-    pub cut-found : (m : ℕ) → Cut-for s l c ps m → cut_for s l c ps ≡ some m
+    pub cut-found : (m : ℕ) → Cut-for s l c ps m → cut_for s l c ps ≡ Some m
     unfolding cut_for
     cut-found m k = ap (cut_by s l c) (ahead-found k.ahead) ∙ (law.cut_at k.char l c m).1 k.cuts
 
@@ -127,8 +128,8 @@ module _ (s : Scene) (l c : ℕ) where
         ]
       where
         go : (o : Option ℕ) → cut_for s l c ps ≡ o → Memᴰ m (list_of o) → Under s l c ps m
-        go none p j = absurd (Memᴰ.not-nil j)
-        go (some n) p j = elim (Memᴰ.cases_cons j) [ inl e ↦ up_to (cut-declared m (p ∙ ap {B = Option ℕ} some (sym e))) | inr k ↦ absurd (Memᴰ.not-nil k) ]
+        go None p j = absurd (Memᴰ.not-nil j)
+        go (Some n) p j = elim (Memᴰ.cases_cons j) [ inl e ↦ up_to (cut-declared m (p ∙ ap {B = Option ℕ} Some (sym e))) | inr k ↦ absurd (Memᴰ.not-nil k) ]
 
     pub limit-found : (m : ℕ) → Under s l c ps m → Memᴰ m (limits s l c ps)
     unfolding limits

@@ -2,7 +2,7 @@
 -- are the line's first bytes.
 use mathlib.Core.Path.{◌≡◌, refl, sym, ◌∙◌, subst, ap}
 use mathlib.Core.Bool.{Bool, true, false, not}
-use mathlib.Core.Option.{some_inj}
+use Rattle.plain.proofs.Options.{some_inj}
 use mathlib.Core.List.{List, [], ◌∷◌, ◌++◌, map, Memᴰ}
 use Prim.Native.Nat.{ℕ, zero, suc, ◌+◌, ◌-◌, ◌≤◌, ◌<◌}
 use native.Mathlib.Numerals.{add-one}
@@ -103,22 +103,22 @@ module _ {A : Type 0} (parts : A → List Part) (rules : List A) (p : List ℕ) 
   unfolding found_in
   found-mem m =
       let (j, i, xs, g, n) = each-source (λ j. give (of_length j)) lengths (joined of_length lengths) m in
-      (with_mem j (rw (← some_inj.0 g) at n)).0
+      (with_mem j (rw (← some_inj g) at n)).0
 
   found-has : {x : A} (j : ℕ) → Memᴰ x rules → j ≤ length p → rule_prefix (parts x) ≡ take j p → Memᴰ x (found_in parts rules p)
   unfolding found_in with_prefix
   found-has j i h e =
       each-has (λ j. give (of_length j)) lengths (joined of_length lengths) (range-has 0 (suc (length p)) j (omega arith) (omega arith))
-      (λ xs g. rw (← some_inj.0 g) (kept-has (λ x. same_bytes (rule_prefix (parts x)) (take j p)) rules (rw e (same_refl (take j p))) i))
+      (λ xs g. rw (← some_inj g) (kept-has (λ x. same_bytes (rule_prefix (parts x)) (take j p)) rules (rw e (same_refl (take j p))) i))
 
   found-once : Apart (λ (x : A). x) rules → Apart (λ (x : A). x) (found_in parts rules p)
   unfolding found_in with_prefix
   found-once apart =
       each-once (λ j. give (of_length j)) (λ (j : ℕ). j) (λ (x : A). x) (λ (x : A). length (rule_prefix (parts x))) lengths
       (λ j xs z i g n.
-      ap length (with_mem j (rw (← some_inj.0 g) at n)).1 ∙ length-take-le j p (omega (arith, range-below 0 (suc (length p)) i)))
+      ap length (with_mem j (rw (← some_inj g) at n)).1 ∙ length-take-le j p (omega (arith, range-below 0 (suc (length p)) i)))
       (joined of_length lengths) (range-apart 0 (suc (length p)))
-      (λ j xs g. rw (← some_inj.0 g) (kept-apart (λ x. same_bytes (rule_prefix (parts x)) (take j p)) (λ (x : A). x) rules apart))
+      (λ j xs g. rw (← some_inj g) (kept-apart (λ x. same_bytes (rule_prefix (parts x)) (take j p)) (λ (x : A). x) rules apart))
 
 pub lookup-enough : (s : Scene) → Lawful s → Enough s (found_pairs s (line_prefix s.line))
 unfolding rule_prefix line_prefix

@@ -1,7 +1,7 @@
 -- Changing every answer of a plan goes through the steps that the plan is made of.
 use mathlib.Core.Path.{◌≡◌, refl, sym, ap, ◌∙◌}
 use mathlib.Core.Bool.{Bool, true, false}
-use mathlib.Core.Option.{Option, none, some}
+use Rattle.std.specs.Prelude.{Option, None, Some}
 use mathlib.Core.List.{List, [], ◌∷◌, ◌++◌, map, map-append}
 use Rattle.readings.specs.Plan.{Plan, give, visit, keep, deep, ◌then◌, each, when, after, mapped}
 
@@ -47,8 +47,8 @@ module _ {A B : Type 0} (f : A → B) where
 
   pub mapped-after : {C : Type 0} (o : Option C) (g : C → Plan (List A)) → mapped f (after o g) ≡ after o (λ x. mapped f (g x))
   unfolding mapped ◌then◌
-  mapped-after none g = refl
-  mapped-after (some x) g = refl
+  mapped-after None g = refl
+  mapped-after (Some x) g = refl
 
 -- changed twice
 pub mapped-mapped : {A B C : Type 0} (f : B → C) (g : A → B) (p : Plan (List A)) → mapped f (mapped g p) ≡ mapped (λ x. f (g x)) p

@@ -2,7 +2,7 @@
 -- matches, each moved by the difference: equal matches are equal wherever the line begins, so the same ones are dropped.
 use mathlib.Core.Path.{◌≡◌, refl, sym, ap, ap₂, ◌∙◌}
 use mathlib.Core.Bool.{Bool, true, false, ◌&&◌, ◌||◌}
-use mathlib.Core.Option.{Option, none, some}
+use Rattle.std.specs.Prelude.{Option, None, Some}
 use mathlib.Core.List.{List, [], ◌∷◌, ◌++◌, map, map-append}
 use Prim.Native.Nat.{ℕ, zero, suc, ◌+◌}
 use native.Mathlib.Nat.{add_assoc, add-zero}
@@ -97,8 +97,8 @@ module _ (s : Scene) (d b : ℕ) where
   -- no step sees the base
   cut-there : (l c : ℕ) (o : Option ℕ) → cut_by there l c o ≡ cut_by here l c o
   unfolding based
-  cut-there l c none = refl
-  cut-there l c (some x) = refl
+  cut-there l c None = refl
+  cut-there l c (Some x) = refl
 
   ends_there : (l c : ℕ) (ps : List Part) → ends there l c ps ≡ ends here l c ps
   unfolding based ends candidates cut_for

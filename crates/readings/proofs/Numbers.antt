@@ -2,7 +2,7 @@
 use mathlib.Core.Path.{◌≡◌, refl, sym, ◌∙◌, subst, ap}
 use mathlib.Core.Logic.{◌⊎◌, inl, inr, ⊎_elim, ◌↔◌}
 use mathlib.Core.Bool.{Bool, true, false}
-use mathlib.Core.Option.{Option, none, some}
+use Rattle.std.specs.Prelude.{Option, None, Some}
 use mathlib.Core.List.{List, [], ◌∷◌, map}
 use Prim.Native.Nat.{ℕ, zero, suc, ◌-◌, ◌≤◌, ◌<◌}
 use native.Mathlib.Decide.{dec_le}
@@ -47,10 +47,10 @@ module _ (order : Scene → List (ℕ × ℕ)) (t line sheet : List ℕ) (budget
   -- the cases, by number
   pub data Case : ℕ → Type 0 where
     table : table_fits t ≡ false → Case 2
-    bytes : (p : ℕ) → table_fits t ≡ true → fault_at line ≡ some p → Case 3
-    extents : table_fits t ≡ true → fault_at line ≡ none → sheet_fits sheet (length line) ≡ false → Case 4
-    visits : table_fits t ≡ true → fault_at line ≡ none → sheet_fits sheet (length line) ≡ true → budget_fits budget ≡ false → Case 5
-    origin : table_fits t ≡ true → fault_at line ≡ none → sheet_fits sheet (length line) ≡ true → budget_fits budget ≡ true → base_fits base ≡ false → Case 19
+    bytes : (p : ℕ) → table_fits t ≡ true → fault_at line ≡ Some p → Case 3
+    extents : table_fits t ≡ true → fault_at line ≡ None → sheet_fits sheet (length line) ≡ false → Case 4
+    visits : table_fits t ≡ true → fault_at line ≡ None → sheet_fits sheet (length line) ≡ true → budget_fits budget ≡ false → Case 5
+    origin : table_fits t ≡ true → fault_at line ≡ None → sheet_fits sheet (length line) ≡ true → budget_fits budget ≡ true → base_fits base ≡ false → Case 19
     -- 6, 7 or 8, whichever the walk meets first
     walk : {n : ℕ} (left : ℕ) → Accepted t line sheet budget base → outcome ≡ stop n left → Case n
     none_found : (left used : ℕ) → Accepted t line sheet budget base → outcome ≡ done left used [] → Case 1
@@ -89,19 +89,19 @@ module _ (order : Scene → List (ℕ × ℕ)) (t line sheet : List ℕ) (budget
       (λ e. (2, table e))
       (tested (table_fits t))
     where
-      by-base : table_fits t ≡ true → fault_at line ≡ none → sheet_fits sheet (length line) ≡ true → budget_fits budget ≡ true → (n : ℕ) × Case n
+      by-base : table_fits t ≡ true → fault_at line ≡ None → sheet_fits sheet (length line) ≡ true → budget_fits budget ≡ true → (n : ℕ) × Case n
       by-base e f g h =
           ⊎_elim
           (λ i. walk-case (record { table = e; bytes = f; extents = g; visits = h; origin = i }) outcome refl)
           (λ i. (19, origin e f g h i))
           (tested (base_fits base))
 
-      by-budget : table_fits t ≡ true → fault_at line ≡ none → sheet_fits sheet (length line) ≡ true → (n : ℕ) × Case n
+      by-budget : table_fits t ≡ true → fault_at line ≡ None → sheet_fits sheet (length line) ≡ true → (n : ℕ) × Case n
       by-budget e f g = ⊎_elim (λ h. by-base e f g h) (λ h. (5, visits e f g h)) (tested (budget_fits budget))
 
       by-line : table_fits t ≡ true → (o : Option ℕ) → fault_at line ≡ o → (n : ℕ) × Case n
-      by-line e (some p) f = (3, bytes p e f)
-      by-line e none f = ⊎_elim (λ g. by-budget e f g) (λ g. (4, extents e f g)) (tested (sheet_fits sheet (length line)))
+      by-line e (Some p) f = (3, bytes p e f)
+      by-line e None f = ⊎_elim (λ g. by-budget e f g) (λ g. (4, extents e f g)) (tested (sheet_fits sheet (length line)))
 
   pub exactly : (n : ℕ) → (number ≡ n) ↔ Case n
   exactly n = ((λ e. let (m, k) = some-case in subst Case (sym (numbered k) ∙ e) k), numbered)

@@ -2,17 +2,18 @@
 use mathlib.Core.Path.{◌≡◌, refl, sym, ◌∙◌, ap}
 use mathlib.Core.Logic.{inl, inr}
 use mathlib.Core.Bool.{Bool, true, false}
-use mathlib.Core.Option.{Option, none, some, none-ne-some, some_inj}
+use Rattle.std.specs.Prelude.{Option, None, Some}
+use Rattle.plain.proofs.Options.{none-ne-some, some_inj}
 use mathlib.Core.List.Memᴰ
 use mathlib.Core.List.{List, [], ◌∷◌, ◌++◌, map, flat_map, Memᴰ}
 use Rattle.plain.specs.Lists.{Apart}
 use Rattle.plain.proofs.Members.{apart-append, apart-map}
 use Rattle.readings.specs.Plan.{Plan, give, visit, keep, deep, value, Gives, ◌then◌, each, when, after, mapped}
 
-pub got : {A : Type 0} {a b : A} → some a ≡ some b → a ≡ b
-got = some_inj.0
+pub got : {A : Type 0} {a b : A} → Some a ≡ Some b → a ≡ b
+got = some_inj
 
-nothing : {A : Type 0} {rs : List A} {z : A} → some [] ≡ some rs → Memᴰ z rs → ⊥
+nothing : {A : Type 0} {rs : List A} {z : A} → Some [] ≡ Some rs → Memᴰ z rs → ⊥
 nothing h m = Memᴰ.not-nil (rw (← got h) at m)
 
 -- ---- one plan after another
@@ -117,17 +118,17 @@ module _ {B : Type 0} where
   when-once key false p h k = rw (← got h) tt
 
   module _ {A : Type 0} (f : A → Plan (List B)) where
-    pub after-source : (o : Option A) {rs : List B} {z : B} → Gives (after o f) rs → Memᴰ z rs → (x : A) × (o ≡ some x) × Gives (f x) rs
-    after-source none h m = absurd (nothing h m)
-    after-source (some x) h m = (x, refl, h)
+    pub after-source : (o : Option A) {rs : List B} {z : B} → Gives (after o f) rs → Memᴰ z rs → (x : A) × (o ≡ Some x) × Gives (f x) rs
+    after-source None h m = absurd (nothing h m)
+    after-source (Some x) h m = (x, refl, h)
 
-    pub after-some : (o : Option A) {x : A} {rs : List B} → o ≡ some x → Gives (after o f) rs → Gives (f x) rs
+    pub after-some : (o : Option A) {x : A} {rs : List B} → o ≡ Some x → Gives (after o f) rs → Gives (f x) rs
     after-some o e h = rw e at h
 
     pub after-once : {K : Type 0} (key : B → K) (o : Option A) {rs : List B} → Gives (after o f) rs
         → ((x : A) → Gives (f x) rs → Apart key rs) → Apart key rs
-    after-once key none h k = rw (← got h) tt
-    after-once key (some x) h k = k x h
+    after-once key None h k = rw (← got h) tt
+    after-once key (Some x) h k = k x h
 
 -- lists joined are the answer of plans that do nothing
 pub joined : {A B : Type 0} (f : A → List B) (xs : List A) → Gives (each xs (λ x. give (f x))) (flat_map f xs)

@@ -3,7 +3,8 @@
 use mathlib.Core.Path.{◌≡◌, refl, sym, ◌∙◌, ap}
 use mathlib.Core.Logic.{inl, inr}
 use mathlib.Core.Bool.{Bool, true, false}
-use mathlib.Core.Option.{some, none-ne-some}
+use Rattle.std.specs.Prelude.{Some}
+use Rattle.plain.proofs.Options.{none-ne-some}
 use mathlib.Core.List.Memᴰ
 use mathlib.Core.List.{List, [], ◌∷◌, ◌++◌, map, Memᴰ}
 use Prim.Native.Nat.{ℕ, zero, suc, ◌+◌, ◌≤◌}
@@ -29,7 +30,7 @@ module _ {A : Type 0} where
       let p : x ≡ a = cc in
       let q : v ≡ v' = cc in
       let r : u ≡ u' = cc in
-      (ap some p, omega arith, omega arith)
+      (ap Some p, omega arith, omega arith)
   run-done (visit p) zero u h = absurd (refused h)
   run-done (visit p) (suc v) u h = let (g, q, r) = run-done p v u h in (g, omega arith, r)
   run-done (keep p) v u h = let (g, q, r) = run-done p v (suc u) (pooled-done (ltb u room) v _ h).1 in (g, q, omega arith)

@@ -4,7 +4,7 @@
 use mathlib.Core.Path.{◌≡◌, refl, sym, ap, subst, ◌∙◌}
 use mathlib.Core.Logic.{inl, inr, ⊎_elim, ◌↔◌}
 use mathlib.Core.Bool.{true, false}
-use mathlib.Core.Option.{Option, none, some}
+use Rattle.std.specs.Prelude.{Option, None, Some}
 use mathlib.Core.List.{List, [], ◌∷◌, map}
 use Prim.Native.Nat.{ℕ, ◌+◌, ◌-◌, ◌≤◌, min}
 use native.Mathlib.Decide.{dec_le}
@@ -192,7 +192,7 @@ module _ (order : Scene → List (ℕ × ℕ)) (free : BaseFree order) (t line s
         (λ e. shifted_as (bad-table order t line sheet budget base b e) (bad-table order t line sheet budget (d + base) b e) (refused-alike d 2 0 b (λ z. omega (arith, z))))
         (tested (table_fits t))
       where
-        walked : table_fits t ≡ true → fault_at line ≡ none → sheet_fits sheet (length line) ≡ true → budget_fits budget ≡ true → Moves
+        walked : table_fits t ≡ true → fault_at line ≡ None → sheet_fits sheet (length line) ≡ true → budget_fits budget ≡ true → Moves
         walked e f g h =
             shifted_as (accepted order t line sheet budget base b (record { table = e; bytes = f; extents = g; visits = h; origin = low }))
             (accepted order t line sheet budget (d + base) b (record { table = e; bytes = f; extents = g; visits = h; origin = high })
@@ -204,15 +204,15 @@ module _ (order : Scene → List (ℕ × ℕ)) (free : BaseFree order) (t line s
               | inr j ↦ elim j [ inl i ↦ omega (arith, i, z) | inr i ↦ omega (arith, i, z) ]
             ]))
 
-        by-budget : table_fits t ≡ true → fault_at line ≡ none → sheet_fits sheet (length line) ≡ true → Moves
+        by-budget : table_fits t ≡ true → fault_at line ≡ None → sheet_fits sheet (length line) ≡ true → Moves
         by-budget e f g =
             ⊎_elim (λ h. walked e f g h)
             (λ h. shifted_as (bad-budget order t line sheet budget base b e f g h) (bad-budget order t line sheet budget (d + base) b e f g h) (refused-alike d 5 0 b (λ z. omega (arith, z))))
             (tested (budget_fits budget))
 
         by-line : table_fits t ≡ true → (o : Option ℕ) → fault_at line ≡ o → Moves
-        by-line e (some p) f = shifted_as (bad-line order t line sheet budget base b p e f) (bad-line order t line sheet budget (d + base) b p e f) (refused-alike d 3 p b (λ z. omega (arith, z)))
-        by-line e none f =
+        by-line e (Some p) f = shifted_as (bad-line order t line sheet budget base b p e f) (bad-line order t line sheet budget (d + base) b p e f) (refused-alike d 3 p b (λ z. omega (arith, z)))
+        by-line e None f =
             ⊎_elim (λ g. by-budget e f g)
             (λ g. shifted_as (bad-sheet order t line sheet budget base b e f g) (bad-sheet order t line sheet budget (d + base) b e f g) (refused-alike d 4 0 b (λ z. omega (arith, z))))
             (tested (sheet_fits sheet (length line)))

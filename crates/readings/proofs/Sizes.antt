@@ -3,7 +3,8 @@
 use mathlib.Core.Path.{◌≡◌, refl, sym, ap, ◌∙◌}
 use mathlib.Core.Logic.{inl, inr}
 use mathlib.Core.Bool.{Bool, true, false}
-use mathlib.Core.Option.{Option, none, some, none-ne-some}
+use Rattle.std.specs.Prelude.{Option, None, Some}
+use Rattle.plain.proofs.Options.{none-ne-some}
 use mathlib.Core.List.Memᴰ
 use mathlib.Core.List.{List, [], ◌∷◌, ◌++◌, map, Memᴰ}
 use Prim.Native.Nat.{ℕ, zero, suc, ◌+◌, ◌≤◌}
@@ -77,8 +78,8 @@ module _ {A B : Type 0} where
       rw (← e) (omega (arith, length-map xs f, k xs g, mapped-records f p h))
 
   after-paid : (o : Option A) (f : A → Plan (List B)) → ((x : A) → Paid (f x)) → Paid (after o f)
-  after-paid none f k rs h = rw (← got h) (omega arith)
-  after-paid (some x) f k rs h = k x rs h
+  after-paid None f k rs h = rw (← got h) (omega arith)
+  after-paid (Some x) f k rs h = k x rs h
 
 when-paid : {B : Type 0} (t : Bool) (p : Plan (List B)) → Paid p → Paid (when t p)
 when-paid true p k rs h = k rs h

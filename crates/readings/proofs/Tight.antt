@@ -1,7 +1,7 @@
 -- No choice is left: what a definition declares has one value. The call, the scan and the lookup are functions of what they
 -- are given, order of the trees included; what follows is said of the relations, which could allow more.
 use mathlib.Core.Path.{◌≡◌, refl, sym, ◌∙◌}
-use mathlib.Core.Option.{some_inj}
+use Rattle.plain.proofs.Options.{some_inj}
 use mathlib.Core.List.{List, [], ◌∷◌, Memᴰ}
 use Prim.Native.Nat.{ℕ, ◌≤◌}
 use native.Mathlib.Omega.{arith}
@@ -25,13 +25,13 @@ module _ (s : Scene) (l c : ℕ) where
   one_place u v = useful-only s l c u ∙ sym (useful-only s l c v)
 
   pub one-past : (x d e : ℕ) → Exactly-at s l c x d → Exactly-at s l c x e → d ≡ e
-  one-past x d e p q = some_inj.0 (sym (exactly-found s l c x d p) ∙ exactly-found s l c x e q)
+  one-past x d e p q = some_inj (sym (exactly-found s l c x d p) ∙ exactly-found s l c x e q)
 
   pub one_span : (e f g h i : ℕ) → Span s l c e f g → Span s l c e h i → (f ≡ h) × (g ≡ i)
   one_span e f g h i p q = (span-found s l c e f g p ∙ sym (span-found s l c e h i q), p.stops ∙ sym q.stops)
 
   pub one-cut : Lawful s → (ps : List Part) (m n : ℕ) → Cut-for s l c ps m → Cut-for s l c ps n → m ≡ n
-  one-cut law ps m n p q = some_inj.0 (sym (cut-found s l c law ps m p) ∙ cut-found s l c law ps n q)
+  one-cut law ps m n p q = some_inj (sym (cut-found s l c law ps m p) ∙ cut-found s l c law ps n q)
 
 -- a rule's arguments say where it ends
 pub one_end : {s : Scene} {l c e f : ℕ} {ps : List Part} {a : Args} → From s l ps c a e → From s l ps c a f → e ≡ f

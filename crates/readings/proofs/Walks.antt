@@ -3,7 +3,7 @@
 -- equal matches once loses nothing.
 use mathlib.Core.Path.{◌≡◌, refl, sym, ◌∙◌, subst, ap}
 use mathlib.Core.Bool.{Bool, true, false}
-use mathlib.Core.Option.{some_inj, none-ne-some}
+use Rattle.plain.proofs.Options.{some_inj, none-ne-some}
 use mathlib.Core.List.Memᴰ
 use mathlib.Core.List.{List, [], ◌∷◌, map, Memᴰ}
 use Prim.Native.Nat.{ℕ, zero, suc, ◌+◌, ◌-◌}
@@ -79,7 +79,7 @@ module _ (s : Scene) (law : Lawful s) (below : Below) (ok : Lists s below) (fin 
   unfolding walk
   walk-sound [] l c {rs} {x} h m =
       let (t, g) = when-source (fin c) _ h m in
-      let q : x ≡ (end, c) = Memᴰ.eq_of_singleton (rw (← some_inj.0 g) at m) in
+      let q : x ≡ (end, c) = Memᴰ.eq_of_singleton (rw (← some_inj g) at m) in
       rw q (finish, t)
   walk-sound (Exact y ∷ ps) l c h m =
       let (d, q, g) = after-source _ (exactly s l c y) h m in
@@ -126,7 +126,7 @@ module _ (s : Scene) (law : Lawful s) (below : Below) (ok : Lists s below) (fin 
   pub walk-complete : {l c e : ℕ} {ps : List Part} {a : Args} {rs : List Found} → From s l ps c a e → fin e ≡ true
       → Gives (walk s below fin ps l c) rs → Memᴰ (a, e) rs
   unfolding walk
-  walk-complete {c = c} finish f h = rw (← some_inj.0 (when_true (fin c) _ f h)) (Memᴰ.head refl)
+  walk-complete {c = c} finish f h = rw (← some_inj (when_true (fin c) _ f h)) (Memᴰ.head refl)
   walk-complete {l} {c} (exact {d = d} {x = x} p w) f h = walk-complete w f (after-some _ _ (exactly-found s l c x d p) h)
   walk-complete {l} {c} (whitespace p w) f h = walk-complete w f (when_true _ _ (gap-found s l c p) h)
   walk-complete {l} {c} {e} (expression {d = d} {f = b} {g = z} {ps = ps} {a = a} i q w) f h =
@@ -160,7 +160,7 @@ rest (nest x y t a) = a
 module _ (s : Scene) (law : Lawful s) (below : Below) (fin : ℕ → Bool) where
   walk-once : (ps : List Part) (l c : ℕ) {rs : List Found} → Gives (walk s below fin ps l c) rs → Apart args rs
   unfolding walk
-  walk-once [] l c h = when-once args (fin c) _ h (λ g. rw (← some_inj.0 g) ((λ y m. absurd (Memᴰ.not-nil m)), tt))
+  walk-once [] l c h = when-once args (fin c) _ h (λ g. rw (← some_inj g) ((λ y m. absurd (Memᴰ.not-nil m)), tt))
   walk-once (Exact y ∷ ps) l c h = after-once _ args (exactly s l c y) h (λ d g. walk-once ps l d g)
   walk-once (Whitespace ∷ ps) l c h = when-once args (is_gap s l c) _ h (λ g. walk-once ps l c g)
   walk-once (Expression ∷ ps) l c h =
@@ -245,21 +245,21 @@ module _ (s : Scene) where
   unfolding top_pairs pairs
   top-mem {x} m =
       let (r, i, xs, g, n) = each-source (λ r. give (pairs r)) s.tops (joined pairs s.tops) m in
-      let (k, j, q) = Memᴰ.of_map {B = ℕ × ℕ} (λ k. (r, k)) (s.rules r) (rw (← some_inj.0 g) at n) in
+      let (k, j, q) = Memᴰ.of_map {B = ℕ × ℕ} (λ k. (r, k)) (s.rules r) (rw (← some_inj g) at n) in
       subst (λ (y : ℕ × ℕ). Memᴰ y.0 s.tops × Memᴰ y.1 (s.rules y.0)) q (i, j)
 
   pub top-has : {r k : ℕ} → Memᴰ r s.tops → Memᴰ k (s.rules r) → Memᴰ (r, k) (top_pairs s)
   unfolding top_pairs pairs
   top-has {r} {k} i j =
       each-has (λ r. give (pairs r)) s.tops (joined pairs s.tops) i
-      (λ xs g. rw (← some_inj.0 g) (Memᴰ.map {B = ℕ × ℕ} (λ k. (r, k)) j))
+      (λ xs g. rw (← some_inj g) (Memᴰ.map {B = ℕ × ℕ} (λ k. (r, k)) j))
 
   pub top-once : Lawful s → Apart (λ (x : ℕ × ℕ). x) (top_pairs s)
   unfolding top_pairs pairs
   top-once law =
       each-once (λ r. give (pairs r)) (λ (r : ℕ). r) (λ (x : ℕ × ℕ). x) (λ (x : ℕ × ℕ). x.0) s.tops
       (λ r xs z _ g n.
-      let (k, j, q) = Memᴰ.of_map {B = ℕ × ℕ} (λ k. (r, k)) (s.rules r) (rw (← some_inj.0 g) at n) in
+      let (k, j, q) = Memᴰ.of_map {B = ℕ × ℕ} (λ k. (r, k)) (s.rules r) (rw (← some_inj g) at n) in
       ap (λ (x : ℕ × ℕ). x.0) (sym q))
       (joined pairs s.tops) law.tops_apart
-      (λ r xs g. rw (← some_inj.0 g) (apart-map (λ (k : ℕ). k) (λ (x : ℕ × ℕ). x) (λ k. (r, k)) (λ x y q. ap (λ (x : ℕ × ℕ). x.1) q) (s.rules r) (law.rules_apart r)))
+      (λ r xs g. rw (← some_inj g) (apart-map (λ (k : ℕ). k) (λ (x : ℕ × ℕ). x) (λ k. (r, k)) (λ x y q. ap (λ (x : ℕ × ℕ). x.1) q) (s.rules r) (law.rules_apart r)))

@@ -1,7 +1,6 @@
 -- The whole call: which number, which fields, which words, for any table, line, sheet, budget, base and buffer.
 -- In words: docs/MANUAL.md, 7 and 8.
-use Rattle.std.specs.Prelude.{◌≡◌, Bool, true, not, ◌&&◌, List, [], ◌∷◌, map, ℕ, ◌-◌, leb, length}
-use Rattle.std.proofs.Math.Option.{Option, none, some}
+use Rattle.std.specs.Prelude.{◌≡◌, Bool, true, not, ◌&&◌, List, [], ◌∷◌, map, ℕ, ◌-◌, leb, length, Option, None, Some}
 use Rattle.plain.specs.Choice.{select}
 use Rattle.plain.specs.Buffers.{at_start}
 use Rattle.plain.specs.Told.{Told, refused_at}
@@ -51,14 +50,14 @@ base_fits base = leb base 4294967175
 -- table, line, sheet, budget and base that get no number from 2 to 5, nor 19
 pub record Accepted (t line sheet : List ℕ) (budget base : ℕ) : Type 0 where
   pub table : table_fits t ≡ true
-  pub bytes : fault_at line ≡ none
+  pub bytes : fault_at line ≡ None
   pub extents : sheet_fits sheet (length line) ≡ true
   pub visits : budget_fits budget ≡ true
   pub origin : base_fits base ≡ true
 
 abbrev pub lined : Option ℕ → List ℕ → Told → Told
-lined none b r = r
-lined (some p) b r = refused_at 3 p b
+lined None b r = r
+lined (Some p) b r = refused_at 3 p b
 
 -- Checks run 2, 3, 4, 5, 19; then whichever of 6, 7, 8 the walk meets first; then 1; then 9. `order` gives the rules to try.
 unfoldable pub call_with : (Scene → List (ℕ × ℕ)) → List ℕ → List ℕ → List ℕ → ℕ → ℕ → List ℕ → Told

@@ -1,8 +1,7 @@
 -- What a walk does, in order: visits, pool records, and how it ends. `run` counts them against the visits left and the
 -- pool's room, and is the only place where numbers 6, 7 and 8 arise.
 -- In words: docs/MANUAL.md, 5.
-use Rattle.std.specs.Prelude.{◌≡◌, Bool, true, false, List, [], ◌∷◌, ◌++◌, map, ℕ, zero, suc, ltb}
-use Rattle.std.proofs.Math.Option.{Option, none, some}
+use Rattle.std.specs.Prelude.{◌≡◌, Bool, true, false, List, [], ◌∷◌, ◌++◌, map, ℕ, zero, suc, ltb, Option, None, Some}
 
 pub data Plan (A : Type 0) : Type 0 where
   -- done, with this answer
@@ -51,13 +50,13 @@ records deep = 0
 
 -- a plan's answer, whatever it costs; none if it goes too deep
 abbrev pub value : {A : Type 0} → Plan A → Option A
-value (give x) = some x
+value (give x) = Some x
 value (visit p) = value p
 value (keep p) = value p
-value deep = none
+value deep = None
 
 abbrev pub Gives : {A : Type 0} → Plan A → A → Type 0
-Gives p a = value p ≡ some a
+Gives p a = value p ≡ Some a
 
 -- one plan after another
 infixl 60 ◌then◌
@@ -79,8 +78,8 @@ when false p = give []
 
 -- a plan for what there is, else nothing found
 abbrev pub after : {A B : Type 0} → Option A → (A → Plan (List B)) → Plan (List B)
-after none f = give []
-after (some x) f = f x
+after None f = give []
+after (Some x) f = f x
 
 -- each answer changed by a function
 unfoldable pub mapped : {A B : Type 0} → (A → B) → Plan (List A) → Plan (List B)

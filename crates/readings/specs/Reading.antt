@@ -1,9 +1,8 @@
 -- What a reading is: document 01's "Steps of a reading" as permissions, with no search, no depth bound and no dropping of
 -- equal matches. It rests on the declared useful place and cut.
 -- In words: docs/MANUAL.md, 3 and 4.
-use Rattle.std.specs.Prelude.{◌≡◌, ◌⊎◌, true, ℕ, ◌+◌, ◌≤◌, ◌<◌, min, length}
+use Rattle.std.specs.Prelude.{◌≡◌, ◌⊎◌, true, ℕ, ◌+◌, ◌≤◌, ◌<◌, min, length, Some}
 use mathlib.Core.List.{List, [], ◌∷◌, Memᴰ}
-use Rattle.std.proofs.Math.Option.{some}
 use Rattle.plain.specs.Lists.{Apart}
 use Rattle.token.specs.Token.{is_whitespace, same_letter}
 use Rattle.syntax.specs.Walker.{byte_at, UsefulPlace}
@@ -48,12 +47,12 @@ SamePlace s l d e = (p : ℕ) × Useful s l d p × Useful s l e p
 -- Expression: candidate ends are free(c, l), free(c, cut) if there is a cut, greedy(c, l), in that order. Of ends with
 -- the same useful place under l, only the first stays.
 pub data Candidate (s : Scene) (l c : ℕ) (ps : List Part) : ℕ → Type 0 where
-  freely : {e : ℕ} → s.free c l ≡ some e → Candidate s l c ps e
-  cut_short : {e m : ℕ} → Cut-for s l c ps m → s.free c m ≡ some e
-      → ((d : ℕ) → s.free c l ≡ some d → SamePlace s l d e → ⊥) → Candidate s l c ps e
-  greedily : {e : ℕ} → s.greedy c l ≡ some e
-      → ((d : ℕ) → s.free c l ≡ some d → SamePlace s l d e → ⊥)
-      → ((m d : ℕ) → Cut-for s l c ps m → s.free c m ≡ some d → SamePlace s l d e → ⊥) → Candidate s l c ps e
+  freely : {e : ℕ} → s.free c l ≡ Some e → Candidate s l c ps e
+  cut_short : {e m : ℕ} → Cut-for s l c ps m → s.free c m ≡ Some e
+      → ((d : ℕ) → s.free c l ≡ Some d → SamePlace s l d e → ⊥) → Candidate s l c ps e
+  greedily : {e : ℕ} → s.greedy c l ≡ Some e
+      → ((d : ℕ) → s.free c l ≡ Some d → SamePlace s l d e → ⊥)
+      → ((m d : ℕ) → Cut-for s l c ps m → s.free c m ≡ Some d → SamePlace s l d e → ⊥) → Candidate s l c ps e
 
 -- Nested: under l and then under the cut if there is one
 pub data Under (s : Scene) (l c : ℕ) (ps : List Part) : ℕ → Type 0 where

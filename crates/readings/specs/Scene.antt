@@ -1,6 +1,5 @@
 -- The scene: what a call is given, decoded. Its leaves are all that the relation and the walk see of table, line and sheet.
-use Rattle.std.specs.Prelude.{List, [], ◌≡◌, ◌↔◌, ℕ, ◌≤◌, length, get_or}
-use Rattle.std.proofs.Math.Option.{Option, some}
+use Rattle.std.specs.Prelude.{List, [], ◌≡◌, ◌↔◌, ℕ, ◌≤◌, length, get_or, Option, Some}
 use Rattle.plain.specs.Lists.{range, keep_if, Apart}
 use Rattle.syntax.specs.Walker.{held}
 use Rattle.syntax.specs.Cut.{CutAt, cut}
@@ -32,10 +31,10 @@ walker_at line l c = held line (record { cursor = c; limit = l })
 -- what theorems use of a scene: the cut that is found is the declared one; ends and cuts lie between cursor and limit;
 -- rules and top rulesets have no double
 pub record Lawful (s : Scene) : Type 0 where
-  pub cut_at : (x l c p : ℕ) → (s.cut x l c ≡ some p) ↔ s.IsCut x l c p
-  pub cut_within : (x l c p : ℕ) → c ≤ l → s.cut x l c ≡ some p → (c ≤ p) × (p ≤ l)
-  pub free_within : (c l e : ℕ) → s.free c l ≡ some e → (c ≤ e) × (e ≤ l)
-  pub greedy_within : (c l e : ℕ) → s.greedy c l ≡ some e → (c ≤ e) × (e ≤ l)
+  pub cut_at : (x l c p : ℕ) → (s.cut x l c ≡ Some p) ↔ s.IsCut x l c p
+  pub cut_within : (x l c p : ℕ) → c ≤ l → s.cut x l c ≡ Some p → (c ≤ p) × (p ≤ l)
+  pub free_within : (c l e : ℕ) → s.free c l ≡ Some e → (c ≤ e) × (e ≤ l)
+  pub greedy_within : (c l e : ℕ) → s.greedy c l ≡ Some e → (c ≤ e) × (e ≤ l)
   pub rules_apart : (r : ℕ) → Apart (λ (k : ℕ). k) (s.rules r)
   pub tops_apart : Apart (λ (r : ℕ). r) s.tops
 

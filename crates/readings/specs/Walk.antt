@@ -2,9 +2,8 @@
 -- structural: the rule walk recurses on the remaining parts, the nested step takes the walk below it as a parameter, and
 -- `under` recurses on the depths that are left.
 -- In words: docs/MANUAL.md, 5.
-use Rattle.std.specs.Prelude.{Bool, true, false, ◌||◌, ℕ, zero, suc, ◌+◌, min, eqb, length}
+use Rattle.std.specs.Prelude.{Bool, true, false, ◌||◌, ℕ, zero, suc, ◌+◌, min, eqb, length, Option, None, Some}
 use mathlib.Core.List.{List, [], ◌∷◌, ◌++◌, map, flat_map}
-use Rattle.std.proofs.Math.Option.{Option, none, some}
 use Rattle.syntax.specs.Walker.{useful, expect_char, gap}
 use Rattle.syntax.specs.declared.walker.Walker.{Walker}
 use Rattle.defs.specs.declared.ruledef.Part.{Part}
@@ -25,8 +24,8 @@ useful_at s l c = useful s.line (walker_at s.line l c)
 
 -- the cursor of a walker that went past a byte
 abbrev pub went_to : Bool × Walker → Option ℕ
-went_to (true, w) = some w.cursor
-went_to (false, w) = none
+went_to (true, w) = Some w.cursor
+went_to (false, w) = None
 
 -- the cursor past an exact part's byte
 unfoldable pub exactly : Scene → ℕ → ℕ → ℕ → Option ℕ
@@ -37,28 +36,28 @@ is_gap s l c = gap s.line (walker_at s.line l c)
 
 -- the lookahead character of a parameter that these parts follow
 unfoldable pub lookahead : List Part → Option ℕ
-lookahead [] = none
-lookahead (Exact x ∷ ps) = some x
+lookahead [] = None
+lookahead (Exact x ∷ ps) = Some x
 lookahead (Whitespace ∷ ps) = lookahead ps
-lookahead (Expression ∷ ps) = none
-lookahead (Nested r ∷ ps) = none
+lookahead (Expression ∷ ps) = None
+lookahead (Nested r ∷ ps) = None
 
 abbrev pub cut_by : Scene → ℕ → ℕ → Option ℕ → Option ℕ
-cut_by s l c none = none
-cut_by s l c (some x) = s.cut x l c
+cut_by s l c None = None
+cut_by s l c (Some x) = s.cut x l c
 
 -- the cut of a parameter that the parts ps follow
 unfoldable pub cut_for : Scene → ℕ → ℕ → List Part → Option ℕ
 cut_for s l c ps = cut_by s l c (lookahead ps)
 
 abbrev pub list_of : Option ℕ → List ℕ
-list_of none = []
-list_of (some x) = x ∷ []
+list_of None = []
+list_of (Some x) = x ∷ []
 
 -- free(c, cut), if there is a cut
 abbrev pub free_under : (ℕ → ℕ → Option ℕ) → ℕ → Option ℕ → Option ℕ
-free_under free c none = none
-free_under free c (some m) = free c m
+free_under free c None = None
+free_under free c (Some m) = free c m
 
 -- parse with and without lookahead, then the greedy decimal
 unfoldable pub candidates : Scene → ℕ → ℕ → List Part → List ℕ

@@ -4,7 +4,8 @@ use mathlib.Core.Path.{◌≡◌, refl, sym, ap, ap₂, ◌∙◌}
 use mathlib.Core.Logic.{◌⊎◌, inl, inr}
 use mathlib.Core.Bool.{Bool, true, false, ◌||◌}
 use mathlib.Core.List.{List, [], ◌∷◌, ◌++◌, map}
-use mathlib.Core.Option.{Option, none, some, none-ne-some}
+use Rattle.std.specs.Prelude.{Option, None, Some}
+use Rattle.plain.proofs.Options.{none-ne-some}
 use Prim.Native.Nat.{ℕ, ◌≤◌}
 use native.Mathlib.Omega.{arith}
 use borrow.Author.Tests.{ltb-false}
@@ -25,7 +26,7 @@ use Rattle.resolver.proofs.Cases.Case.{case_11, case_12, case_13, case_14, case_
 
 -- what an accepted list is
 pub accepted :
-    (ws : List ℕ) (os : List Outcome) → outcomes_of ws ≡ some os →
+    (ws : List ℕ) (os : List Outcome) → outcomes_of ws ≡ Some os →
     (ltb 4096 (length ws) ≡ false) × (some_of is_bad ws ≡ false) × (map outcome_of ws ≡ os)
 unfolding outcomes_of
 accepted ws os ok = go (tested (ltb 4096 (length ws) || some_of is_bad ws))
@@ -58,7 +59,7 @@ all-outcomes (o ∷ os) = ap₂ ◌∷◌ (outcome-of-word o) (all-outcomes os)
 module _
     (ws : List ℕ) (os : List Outcome) (few : ltb 4096 (length ws) ≡ false) (good : some_of is_bad ws ≡ false)
     (same : map outcome_of ws ≡ os) where
-  guesses-again : outcomes_of (map word_of (map as_guess os)) ≡ some (map as_guess os)
+  guesses-again : outcomes_of (map word_of (map as_guess os)) ≡ Some (map as_guess os)
   unfolding outcomes_of
   guesses-again =
       rw (
@@ -71,15 +72,15 @@ module _
         few,
       )
 
-  outcomes-again : outcomes_of (map word_of os) ≡ some os
+  outcomes-again : outcomes_of (map word_of os) ≡ Some os
   unfolding outcomes_of
   outcomes-again = rw (← same, words_of-outcomes ws good, few, good)
 
-  marked-again : outcomes_of (map word_of (marked os)) ≡ some (marked os)
+  marked-again : outcomes_of (map word_of (marked os)) ≡ Some (marked os)
   unfolding marked
   marked-again = go (some_of is_guess os)
     where
-      go : (b : Bool) → outcomes_of (map word_of (select b (map as_guess os) os)) ≡ some (select b (map as_guess os) os)
+      go : (b : Bool) → outcomes_of (map word_of (select b (map as_guess os) os)) ≡ Some (select b (map as_guess os) os)
       go true = guesses-again
       go false = outcomes-again
 
@@ -101,11 +102,11 @@ module _ (ws : List ℕ) (last : Bool) (buffer : List ℕ) where
   unfolding Again
   refused-again e = rw e e
 
-  module _ (os : List Outcome) (ok : outcomes_of ws ≡ some os) where
+  module _ (os : List Outcome) (ok : outcomes_of ws ≡ Some os) where
     same : SameChoice (marked os) os
     same = marked-choice os
 
-    ok-again : outcomes_of (map word_of (marked os)) ≡ some (marked os)
+    ok-again : outcomes_of (map word_of (marked os)) ≡ Some (marked os)
     ok-again = let (few, good, outcomes) = accepted ws os ok in marked-again ws os few good outcomes
 
     answer : (c : Case last buffer os) → selected ws last buffer ≡ answer_in ws last buffer os c
@@ -138,5 +139,5 @@ module _ (ws : List ℕ) (last : Bool) (buffer : List ℕ) where
   again = go (outcomes_of ws) refl
     where
       go : (o : Option (List Outcome)) → outcomes_of ws ≡ o → Again
-      go none bad = refused-again (on-bad ws last buffer bad)
-      go (some os) ok = again-in os ok (which last buffer os)
+      go None bad = refused-again (on-bad ws last buffer bad)
+      go (Some os) ok = again-in os ok (which last buffer os)

@@ -3,7 +3,7 @@
 use mathlib.Core.Path.{◌≡◌, sym, ap, ◌∙◌}
 use mathlib.Core.Bool.{Bool, true, false, ◌&&◌}
 use mathlib.Core.List.{List, map}
-use mathlib.Core.Option.{none, some}
+use Rattle.std.specs.Prelude.{None, Some}
 use Prim.Native.Nat.{ℕ, ◌≤◌, ◌<◌}
 use native.Mathlib.Omega.{arith}
 use borrow.Author.Tests.{lt-ltb, le-ltb, eq-eqb, ne_eqb}
@@ -64,7 +64,7 @@ module _ {ws : List ℕ} {resolved known guesses size times : ℕ} (found : Foun
   times-is = choice-length (map outcome_of ws) ∙ sym found.smallest.many
 
   -- the indices of the least size are the choice
-  indices-are : choice_of (map outcome_of ws) ≡ indices_of (some size) (map outcome_of ws)
+  indices-are : choice_of (map outcome_of ws) ≡ indices_of (Some size) (map outcome_of ws)
   unfolding choice_of
   indices-are =
       rw (
@@ -73,11 +73,11 @@ module _ {ws : List ℕ} {resolved known guesses size times : ℕ} (found : Foun
       )
 
   -- where as many as were found have room, so have they
-  pub room_for : {n : ℕ} → times ≤ n → length (indices_of (some size) (map outcome_of ws)) ≤ n
+  pub room_for : {n : ℕ} → times ≤ n → length (indices_of (Some size) (map outcome_of ws)) ≤ n
   room_for room = omega (arith, ap length indices-are, times-is)
 
 module _ (ws : List ℕ) (last : Bool) (buffer : List ℕ) where
-  bad-list : outcomes_of ws ≡ none → Promised ws last buffer BadList ws buffer
+  bad-list : outcomes_of ws ≡ None → Promised ws last buffer BadList ws buffer
   bad-list bad = promised ws last buffer BadList (sym (on-bad ws last buffer bad))
 
   -- 10: too many words
@@ -94,7 +94,7 @@ module _ (ws : List ℕ) (last : Bool) (buffer : List ℕ) where
       bad-list (rw (le-ltb _ _ few, some-counted is_bad ws, ← tally.bads, lt-ltb _ _ some-bad))
 
   module _ {resolved known guesses : ℕ} (fine : Judged ws resolved known guesses) where
-    outcomes : outcomes_of ws ≡ some (map outcome_of ws)
+    outcomes : outcomes_of ws ≡ Some (map outcome_of ws)
     unfolding outcomes_of
     outcomes = rw (le-ltb _ _ fine.few, fine.good)
 
@@ -146,7 +146,7 @@ module _ (ws : List ℕ) (last : Bool) (buffer : List ℕ) where
       -- 0
       pub chosen :
           times ≤ length buffer → {after written : List ℕ} → after ≡ map word_of (marked (map outcome_of ws)) →
-          written ≡ at_start (indices_of (some size) (map outcome_of ws)) buffer →
+          written ≡ at_start (indices_of (Some size) (map outcome_of ws)) buffer →
           Promised ws last buffer (Chosen times) after written
       chosen room marks writes =
           promised ws last buffer (Chosen times)

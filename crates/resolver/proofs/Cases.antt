@@ -3,7 +3,7 @@ use mathlib.Core.Path.{◌≡◌, refl, ◌∙◌}
 use mathlib.Core.Logic.{◌⊎◌, inl, inr}
 use mathlib.Core.Bool.{Bool, true, false, ◌&&◌}
 use mathlib.Core.List.{List}
-use mathlib.Core.Option.{none, some}
+use Rattle.std.specs.Prelude.{None, Some}
 use Prim.Native.Nat.{ℕ}
 use lib.Dec.{ltb, eqb}
 use lib.ListN.{length}
@@ -76,16 +76,16 @@ module _ (ws : List ℕ) (last : Bool) (buffer : List ℕ) (os : List Outcome) w
   answer-by (case_0 r k t s) = rw (r, k, t, s)
 
   -- the answer on words that are a list of outcomes
-  pub on-outcomes : outcomes_of ws ≡ some os → selected ws last buffer ≡ answer_on ws last buffer os
+  pub on-outcomes : outcomes_of ws ≡ Some os → selected ws last buffer ≡ answer_on ws last buffer os
   unfolding selected answer_of
   on-outcomes ok = rw ok
 
-  pub in-case : outcomes_of ws ≡ some os → (c : Case last buffer os) → selected ws last buffer ≡ answer_in c
+  pub in-case : outcomes_of ws ≡ Some os → (c : Case last buffer os) → selected ws last buffer ≡ answer_in c
   in-case ok c = on-outcomes ok ∙ answer-by c
 
 -- the answer on a bad list
 pub on-bad :
-    (ws : List ℕ) (last : Bool) (buffer : List ℕ) → outcomes_of ws ≡ none →
+    (ws : List ℕ) (last : Bool) (buffer : List ℕ) → outcomes_of ws ≡ None →
     selected ws last buffer ≡ refusal ws buffer 10 0
 unfolding selected answer_of
 on-bad ws last buffer bad = rw bad

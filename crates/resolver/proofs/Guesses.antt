@@ -4,7 +4,7 @@ use mathlib.Core.Path.{◌≡◌, refl, sym, ap, ap₂, ◌∙◌}
 use mathlib.Core.Logic.{◌⊎◌, inl, inr}
 use mathlib.Core.Bool.{Bool, true, false}
 use mathlib.Core.List.{List, [], ◌∷◌, map}
-use mathlib.Core.Option.{some}
+use Rattle.std.specs.Prelude.{Some}
 use Prim.Native.Nat.{ℕ}
 use lib.ListN.{length, get_or, length-map, get_or-map}
 use Rattle.plain.specs.Choice.{select}
@@ -77,7 +77,7 @@ same-choice os ps same =
 -- so calls on them return the same and leave the same buffer
 pub guess-free :
     (ws vs : List ℕ) (os ps : List Outcome) (last : Bool) (buffer : List ℕ) →
-    outcomes_of ws ≡ some os → outcomes_of vs ≡ some ps → map as_guess os ≡ map as_guess ps →
+    outcomes_of ws ≡ Some os → outcomes_of vs ≡ Some ps → map as_guess os ≡ map as_guess ps →
     (told_by (selected ws last buffer) ≡ told_by (selected vs last buffer))
     × (left_by (selected ws last buffer) ≡ left_by (selected vs last buffer))
 guess-free ws vs os ps last buffer ok-os ok-ps but-guesses =

@@ -3,7 +3,7 @@ use mathlib.Core.Path.{◌≡◌, refl, sym, ◌∙◌}
 use mathlib.Core.Logic.{◌⊎◌, inl, inr}
 use mathlib.Core.Bool.{true, false}
 use mathlib.Core.List.{List}
-use mathlib.Core.Option.{Option, none, some}
+use Rattle.std.specs.Prelude.{Option, None, Some}
 use Prim.Native.Nat.{ℕ, ◌≤◌, ◌<◌}
 use borrow.Author.Tests.{ltb-true, ltb-false}
 use lib.ListN.{length}
@@ -19,19 +19,19 @@ pub data GuessingPass (ws buffer : List ℕ) : Type 0 where
   as_last : selected ws false buffer ≡ selected ws true buffer → GuessingPass ws buffer
   -- the last pass finds a tie: 0 and the tied ones, with the same count and marks
   the_tied :
-      (os : List Outcome) → outcomes_of ws ≡ some os → 1 < length (choice_of os) → length (choice_of os) ≤ length buffer →
+      (os : List Outcome) → outcomes_of ws ≡ Some os → 1 < length (choice_of os) → length (choice_of os) ≤ length buffer →
       selected ws true buffer ≡ tie buffer os → selected ws false buffer ≡ choice buffer os →
       GuessingPass ws buffer
   -- the same, where they have no room: 14
   no_room_for_tied :
-      (os : List Outcome) → outcomes_of ws ≡ some os → 1 < length (choice_of os) → length buffer < length (choice_of os) →
+      (os : List Outcome) → outcomes_of ws ≡ Some os → 1 < length (choice_of os) → length buffer < length (choice_of os) →
       selected ws true buffer ≡ tie buffer os →
       selected ws false buffer ≡ refusal ws buffer 14 (length (choice_of os)) → GuessingPass ws buffer
 
 pub guessing-pass : (ws buffer : List ℕ) → GuessingPass ws buffer
 guessing-pass ws buffer = go (outcomes_of ws) refl
   where
-    on : (os : List Outcome) → outcomes_of ws ≡ some os → Case true buffer os → GuessingPass ws buffer
+    on : (os : List Outcome) → outcomes_of ws ≡ Some os → Case true buffer os → GuessingPass ws buffer
     on os ok (case_11 r) =
         as_last (in-case ws false buffer os ok (case_11 r) ∙ sym (in-case ws true buffer os ok (case_11 r)))
     on os ok (case_12 r k) =
@@ -51,5 +51,5 @@ guessing-pass ws buffer = go (outcomes_of ws) refl
         as_last (in-case ws false buffer os ok (case_0 r k refl s) ∙ sym (in-case ws true buffer os ok (case_0 r k t s)))
 
     go : (o : Option (List Outcome)) → outcomes_of ws ≡ o → GuessingPass ws buffer
-    go none bad = as_last (on-bad ws false buffer bad ∙ sym (on-bad ws true buffer bad))
-    go (some os) ok = on os ok (which true buffer os)
+    go None bad = as_last (on-bad ws false buffer bad ∙ sym (on-bad ws true buffer bad))
+    go (Some os) ok = on os ok (which true buffer os)

@@ -5,7 +5,7 @@ use mathlib.Core.Logic.{◌⊎◌, inl, inr}
 use mathlib.Core.Bool.{Bool, true, false}
 use mathlib.Core.List.Memᴰ
 use mathlib.Core.List.{List, [], ◌∷◌, Memᴰ}
-use mathlib.Core.Option.{some}
+use Rattle.std.specs.Prelude.{Some}
 use Prim.Native.Nat.{ℕ, ◌≤◌, ◌<◌}
 use native.Mathlib.Omega.{arith}
 use borrow.Author.Tests.{ltb-false, le-ltb, eqb-false, ne_eqb}
@@ -62,7 +62,7 @@ module _ (os : List Outcome) where
 module _
     (ws : List ℕ) (last : Bool) (buffer : List ℕ) (r : Selection) {words after : List ℕ}
     (answer : answered r words after ≡ selected ws last buffer) (on-last : last ≡ true) (os : List Outcome)
-    (accepted : outcomes_of ws ≡ some os) (room : 0 < length buffer) where
+    (accepted : outcomes_of ws ≡ Some os) (room : 0 < length buffer) where
   answer-is : answered r words after ≡ answer_on ws true buffer os
   answer-is = answer ∙ rw (on-last, on-outcomes ws true buffer os accepted)
 

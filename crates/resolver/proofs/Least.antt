@@ -4,7 +4,8 @@ use mathlib.Core.Path.{◌≡◌, refl, sym, ap, ◌∙◌}
 use mathlib.Core.Logic.{◌⊎◌, inl, inr, ⊎_elim}
 use mathlib.Core.Bool.{Bool, true, false}
 use mathlib.Core.List.{List, [], ◌∷◌, ◌++◌, map}
-use mathlib.Core.Option.{Option, none, some, none-ne-some}
+use Rattle.std.specs.Prelude.{Option, None, Some}
+use Rattle.plain.proofs.Options.{none-ne-some}
 use Prim.Native.Nat.{ℕ, zero, suc, ◌+◌, ◌≤◌, ◌<◌, min}
 use native.Mathlib.Nat.{add-zero}
 use native.Mathlib.Decide.{dec_le}
@@ -25,43 +26,43 @@ use Rattle.plain.proofs.Passed.{map_more, count-more, count_none, none-at}
 use Rattle.resolver.proofs.Words.{known-size, small_size, no_size, size-known}
 
 -- sizes that are the same are known
-same_true : (s t : Option ℕ) → same_size s t ≡ true → (n : ℕ) × (s ≡ some n) × (t ≡ some n)
+same_true : (s t : Option ℕ) → same_size s t ≡ true → (n : ℕ) × (s ≡ Some n) × (t ≡ Some n)
 unfolding same_size
-same_true none t h = absurd (not-both refl (sym h))
-same_true (some s) none h = absurd (not-both refl (sym h))
-same_true (some s) (some t) h = (s, refl, ap some (sym (eqb-true s t h)))
+same_true None t h = absurd (not-both refl (sym h))
+same_true (Some s) None h = absurd (not-both refl (sym h))
+same_true (Some s) (Some t) h = (s, refl, ap Some (sym (eqb-true s t h)))
 
 -- so an outcome that has a size
-pub has-true : (s : Option ℕ) (o : Outcome) → has_size s o ≡ true → (n : ℕ) × (s ≡ some n) × (size_of o ≡ some n)
+pub has-true : (s : Option ℕ) (o : Outcome) → has_size s o ≡ true → (n : ℕ) × (s ≡ Some n) × (size_of o ≡ Some n)
 unfolding has_size
 has-true s o h = same_true s (size_of o) h
 
-pub has_same : (n : ℕ) (o : Outcome) → size_of o ≡ some n → has_size (some n) o ≡ true
+pub has_same : (n : ℕ) (o : Outcome) → size_of o ≡ Some n → has_size (Some n) o ≡ true
 unfolding has_size same_size
 has_same n o h = rw h (eq-eqb n n refl)
 
 -- the lesser of two sizes is at most either, and one of them
-lesser-left : (t : ℕ) (b : Option ℕ) → (m : ℕ) × (lesser (some t) b ≡ some m) × (m ≤ t)
+lesser-left : (t : ℕ) (b : Option ℕ) → (m : ℕ) × (lesser (Some t) b ≡ Some m) × (m ≤ t)
 unfolding lesser
-lesser-left t none = (t, refl, omega arith)
-lesser-left t (some u) = (min t u, refl, omega arith)
+lesser-left t None = (t, refl, omega arith)
+lesser-left t (Some u) = (min t u, refl, omega arith)
 
-lesser-right : (a : Option ℕ) (u : ℕ) → (m : ℕ) × (lesser a (some u) ≡ some m) × (m ≤ u)
+lesser-right : (a : Option ℕ) (u : ℕ) → (m : ℕ) × (lesser a (Some u) ≡ Some m) × (m ≤ u)
 unfolding lesser
-lesser-right none u = (u, refl, omega arith)
-lesser-right (some s) u = (min s u, refl, omega arith)
+lesser-right None u = (u, refl, omega arith)
+lesser-right (Some s) u = (min s u, refl, omega arith)
 
-lesser-either : (a b : Option ℕ) (m : ℕ) → lesser a b ≡ some m → (a ≡ some m) ⊎ (b ≡ some m)
+lesser-either : (a b : Option ℕ) (m : ℕ) → lesser a b ≡ Some m → (a ≡ Some m) ⊎ (b ≡ Some m)
 unfolding lesser
-lesser-either none b m h = inr h
-lesser-either (some s) none m h = inl h
-lesser-either (some s) (some t) m h =
+lesser-either None b m h = inr h
+lesser-either (Some s) None m h = inl h
+lesser-either (Some s) (Some t) m h =
     let e : min s t ≡ m = cc in
-    elim (dec_le s t) [ yes l ↦ inl (ap some (omega arith)) | no l ↦ inr (ap some (omega (arith, l))) ]
+    elim (dec_le s t) [ yes l ↦ inl (ap Some (omega arith)) | no l ↦ inr (ap Some (omega (arith, l))) ]
 
 -- a known size is no less than the least
 pub least-at-most :
-    (os : List Outcome) (i t : ℕ) → size_at os i ≡ some t → (m : ℕ) × (least_size os ≡ some m) × (m ≤ t)
+    (os : List Outcome) (i t : ℕ) → size_at os i ≡ Some t → (m : ℕ) × (least_size os ≡ Some m) × (m ≤ t)
 unfolding least_size size_of
 least-at-most [] i t h = absurd (none-ne-some t h)
 least-at-most (o ∷ os) zero t h = rw h (lesser-left t (least_size os))
@@ -72,7 +73,7 @@ least-at-most (o ∷ os) (suc i) t h =
 
 -- the least is one of the known sizes
 pub least-attained :
-    (os : List Outcome) (m : ℕ) → least_size os ≡ some m → (i : ℕ) × (i < length os) × (size_at os i ≡ some m)
+    (os : List Outcome) (m : ℕ) → least_size os ≡ Some m → (i : ℕ) × (i < length os) × (size_at os i ≡ Some m)
 unfolding least_size
 least-attained [] m h = absurd (none-ne-some m h)
 least-attained (o ∷ os) m h =
@@ -81,12 +82,12 @@ least-attained (o ∷ os) m h =
     (lesser-either (size_of o) (least_size os) m h)
 
 -- where an outcome is known there is a least size
-pub least_known : (os : List Outcome) → (count is_known os ≡ 0 → ⊥) → least_size os ≡ some (or_more (least_size os))
+pub least_known : (os : List Outcome) → (count is_known os ≡ 0 → ⊥) → least_size os ≡ Some (or_more (least_size os))
 least_known os some_Known = go (least_size os) refl
   where
-    go : (a : Option ℕ) → least_size os ≡ a → a ≡ some (or_more a)
-    go (some m) e = refl
-    go none e =
+    go : (a : Option ℕ) → least_size os ≡ a → a ≡ Some (or_more a)
+    go (Some m) e = refl
+    go None e =
         absurd (some_Known (count_none is_known os unresolved (λ i l known.
         let (t, size) = size-known (get_or os i unresolved) known in
         let (m, least, most) = least-at-most os i t size in
@@ -95,15 +96,15 @@ least_known os some_Known = go (least_size os) refl
 -- sizes may be compared in any grouping
 lesser-assoc : (a b c : Option ℕ) → lesser a (lesser b c) ≡ lesser (lesser a b) c
 unfolding lesser
-lesser-assoc none b c = refl
-lesser-assoc (some a) none c = refl
-lesser-assoc (some a) (some b) none = refl
-lesser-assoc (some a) (some b) (some c) = ap some (omega arith)
+lesser-assoc None b c = refl
+lesser-assoc (Some a) None c = refl
+lesser-assoc (Some a) (Some b) None = refl
+lesser-assoc (Some a) (Some b) (Some c) = ap Some (omega arith)
 
-lesser-none : (a : Option ℕ) → lesser a none ≡ a
+lesser-none : (a : Option ℕ) → lesser a None ≡ a
 unfolding lesser
-lesser-none none = refl
-lesser-none (some a) = refl
+lesser-none None = refl
+lesser-none (Some a) = refl
 
 -- the least of one outcome more
 least_more : (os : List Outcome) (o : Outcome) → least_size (os ++ (o ∷ [])) ≡ lesser (least_size os) (size_of o)
@@ -112,33 +113,33 @@ least_more [] o = lesser-none (size_of o)
 least_more (p ∷ os) o = ap (lesser (size_of p)) (least_more os o) ∙ lesser-assoc (size_of p) (least_size os) (size_of o)
 
 -- no outcome has a size below the least
-none_below : (os : List Outcome) (s : ℕ) → s < or_more (least_size os) → count (has_size (some s)) os ≡ 0
-none_below os s below = count_none (has_size (some s)) os unresolved (λ i l h.
-    let (n, e, f) = has-true (some s) (get_or os i unresolved) h in
+none_below : (os : List Outcome) (s : ℕ) → s < or_more (least_size os) → count (has_size (Some s)) os ≡ 0
+none_below os s below = count_none (has_size (Some s)) os unresolved (λ i l h.
+    let (n, e, f) = has-true (Some s) (get_or os i unresolved) h in
     let (m, g, k) = least-at-most os i n f in
     let same : s ≡ n = cc in
     omega (arith, ap or_more g))
 
 -- the lesser of a least size so far and one more
-lesser-below : (a : Option ℕ) (s : ℕ) → s < or_more a → lesser a (some s) ≡ some s
+lesser-below : (a : Option ℕ) (s : ℕ) → s < or_more a → lesser a (Some s) ≡ Some s
 unfolding lesser
-lesser-below none s l = refl
-lesser-below (some m) s l = ap some (omega arith)
+lesser-below None s l = refl
+lesser-below (Some m) s l = ap Some (omega arith)
 
-lesser-above : (a : Option ℕ) (s : ℕ) → or_more a ≤ s → s ≤ 65535 → lesser a (some s) ≡ a
+lesser-above : (a : Option ℕ) (s : ℕ) → or_more a ≤ s → s ≤ 65535 → lesser a (Some s) ≡ a
 unfolding lesser
-lesser-above none s l small = absurd (omega arith)
-lesser-above (some m) s l small = ap some (omega arith)
+lesser-above None s l small = absurd (omega arith)
+lesser-above (Some m) s l small = ap Some (omega arith)
 
-same_above : (a : Option ℕ) (s : ℕ) → or_more a ≤ s → s ≤ 65535 → same_size a (some s) ≡ eqb (or_more a) s
+same_above : (a : Option ℕ) (s : ℕ) → or_more a ≤ s → s ≤ 65535 → same_size a (Some s) ≡ eqb (or_more a) s
 unfolding same_size
-same_above none s l small = absurd (omega arith)
-same_above (some m) s l small = refl
+same_above None s l small = absurd (omega arith)
+same_above (Some m) s l small = refl
 
-has-none : (a : Option ℕ) (o : Outcome) → size_of o ≡ none → has_size a o ≡ false
+has-none : (a : Option ℕ) (o : Outcome) → size_of o ≡ None → has_size a o ≡ false
 unfolding has_size same_size
-has-none none o e = refl
-has-none (some n) o e = rw e
+has-none None o e = refl
+has-none (Some n) o e = rw e
 
 -- the turns of the pass: what it has found, with one outcome more
 module _ {os : List Outcome} {least times : ℕ} (before : Smallest os least times) (o : Outcome) where
@@ -147,16 +148,16 @@ module _ {os : List Outcome} {least times : ℕ} (before : Smallest os least tim
       many ≡ count (has_size new) os + select (has_size new o) 1 0 → Smallest (os ++ (o ∷ [])) size many
   turn new e f g = record { least = rw (least_more, e) f; many = rw (least_more, e, count-more) g }
 
-  turn-unknown : size_of o ≡ none → Smallest (os ++ (o ∷ [])) least times
+  turn-unknown : size_of o ≡ None → Smallest (os ++ (o ∷ [])) least times
   turn-unknown e =
       turn (least_size os) (rw e (lesser-none (least_size os))) before.least
       (rw (has-none _ o e) (omega (arith, before.many)))
 
-  module _ {s : ℕ} (known : size_of o ≡ some s) where
+  module _ {s : ℕ} (known : size_of o ≡ Some s) where
     turn-less : s < least → Smallest (os ++ (o ∷ [])) s 1
     turn-less less =
         let below : s < or_more (least_size os) = omega (arith, before.least) in
-        turn (some s) (rw known (lesser-below _ s below)) refl
+        turn (Some s) (rw known (lesser-below _ s below)) refl
         (rw (has_same s o known, none_below os s below))
 
     module _ (small : s ≤ 65535) where
@@ -203,8 +204,8 @@ module _ {ws : List ℕ} {i least times : ℕ} (before : Passing ws i least time
           passed (turn-unknown before.found _ (no_size _ (sym answer ∙ no_test))) (omega (arith, before.most))
 
       module _ (known : test ≡ true) {s : ℕ} (size : s ≡ size_in (get_or ws i 0)) where
-        size_is : size_of (outcome_of (get_or ws i 0)) ≡ some s
-        size_is = known-size _ (sym answer ∙ known) ∙ ap some (sym size)
+        size_is : size_of (outcome_of (get_or ws i 0)) ≡ Some s
+        size_is = known-size _ (sym answer ∙ known) ∙ ap Some (sym size)
 
         small : s ≤ 65535
         small = small_size _ (none-at is_bad ws 0 before.good i more) s size_is

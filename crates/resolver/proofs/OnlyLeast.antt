@@ -4,7 +4,8 @@
 use mathlib.Core.Path.{◌≡◌, refl, sym, ap, ◌∙◌, subst}
 use mathlib.Core.List.Memᴰ
 use mathlib.Core.List.{List, [], ◌∷◌, Memᴰ}
-use mathlib.Core.Option.{some, none-ne-some}
+use Rattle.std.specs.Prelude.{Some}
+use Rattle.plain.proofs.Options.{none-ne-some}
 use Prim.Native.Nat.{ℕ, zero, suc, ◌≤◌, ◌<◌}
 use native.Mathlib.Decide.{ℕ_discrete}
 use native.Mathlib.Omega.{arith}
@@ -19,7 +20,7 @@ use Rattle.plain.proofs.Kept.{kept-all, kept-only, one_kept}
 use Rattle.resolver.proofs.Least.{has-true, has_same, least-at-most, least-attained, least_known}
 
 -- an outcome with a size is in the list
-in_list : (os : List Outcome) (i t : ℕ) → size_at os i ≡ some t → i < length os
+in_list : (os : List Outcome) (i t : ℕ) → size_at os i ≡ Some t → i < length os
 unfolding size_of
 in_list [] i t h = absurd (none-ne-some t h)
 in_list (o ∷ os) zero t h = omega arith
@@ -28,12 +29,12 @@ in_list (o ∷ os) (suc i) t h = omega (arith, in_list os i t h)
 -- the outcome at an index has a known size, and no known size is less
 pub record OfLeast (os : List Outcome) (i : ℕ) : Type 0 where
   pub size : ℕ
-  pub known : size_at os i ≡ some size
-  pub others : (j t : ℕ) → size_at os j ≡ some t → size ≤ t
+  pub known : size_at os i ≡ Some size
+  pub others : (j t : ℕ) → size_at os j ≡ Some t → size ≤ t
 
 module _ (os : List Outcome) where
   -- an index of the least size is chosen
-  chosen-least : (j m : ℕ) → least_size os ≡ some m → size_at os j ≡ some m → Memᴰ j (choice_of os)
+  chosen-least : (j m : ℕ) → least_size os ≡ Some m → size_at os j ≡ Some m → Memᴰ j (choice_of os)
   unfolding choice_of indices_of
   chosen-least j m least size =
       kept-all _ (length os) j (in_list os j m size)
@@ -47,7 +48,7 @@ module _ (os : List Outcome) where
       (i, chosen-least i (or_more (least_size os)) least size)
 
   -- an index that is chosen has the least size
-  least-chosen : (i : ℕ) → Memᴰ i (choice_of os) → (m : ℕ) × (least_size os ≡ some m) × (size_at os i ≡ some m)
+  least-chosen : (i : ℕ) → Memᴰ i (choice_of os) → (m : ℕ) × (least_size os ≡ Some m) × (size_at os i ≡ Some m)
   unfolding choice_of indices_of
   least-chosen i there = has-true (least_size os) (get_or os i unresolved) (kept-only _ (length os) i there).1
 
@@ -69,7 +70,7 @@ module _ (os : List Outcome) where
         let (m, least, most) = least-at-most os i at.size at.known in
         let (k, within, size) = least-attained os m least in
         let same : m ≡ at.size = omega (arith, at.others k m size) in
-        chosen-least i m least (at.known ∙ ap some (sym same)),
+        chosen-least i m least (at.known ∙ ap Some (sym same)),
   )
 
   -- chosen alone, it is the only least
@@ -84,12 +85,12 @@ module _ (os : List Outcome) where
             let m-is : m ≡ n = cc in
             let apart : m ≡ t → ⊥ = λ e.
             other (Memᴰ.eq_of_singleton (subst (λ (l : List ℕ). Memᴰ j l) alone
-            (chosen-least j m least (size-j ∙ ap some (sym e))))) in
+            (chosen-least j m least (size-j ∙ ap Some (sym e))))) in
             omega (arith, apart);
       }
 
   -- an only least size is the least
-  only-is-least : (i : ℕ) (only : OnlyLeast os i) → least_size os ≡ some only.size
+  only-is-least : (i : ℕ) (only : OnlyLeast os i) → least_size os ≡ Some only.size
   only-is-least i only =
       let (m, least, most) = least-at-most os i only.size only.known in
       let (k, within, size) = least-attained os m least in

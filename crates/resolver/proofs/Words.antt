@@ -3,7 +3,8 @@
 use mathlib.Core.Path.{◌≡◌, refl, sym, ap, ◌∙◌}
 use mathlib.Core.Logic.{◌⊎◌, inl, inr}
 use mathlib.Core.Bool.{Bool, true, false, ◌&&◌, ◌||◌}
-use mathlib.Core.Option.{none, some, none-ne-some}
+use Rattle.std.specs.Prelude.{None, Some}
+use Rattle.plain.proofs.Options.{none-ne-some}
 use Prim.Native.Nat.{ℕ, zero, suc, ◌+◌, ◌-◌, ◌*◌, ◌%◌, ◌≤◌, ◌<◌}
 use native.Mathlib.Omega.{arith}
 use borrow.Author.Tests.{eq-eqb, ne_eqb, le-ltb, eqb-true, eqb-false, ltb-false, not-false}
@@ -47,14 +48,14 @@ module _ (w : ℕ) where
   unfolding outcome_of of_kind is_known
   known-by-kind = by_kind (λ k. is_known (of_kind k (guess_in w) (size_in w)) ≡ eqb k 3) refl refl refl refl
 
-  pub size-by-kind : (n : ℕ) → has_size (some n) (outcome_of w) ≡ (eqb (kind_in w) 3 && eqb n (size_in w))
+  pub size-by-kind : (n : ℕ) → has_size (Some n) (outcome_of w) ≡ (eqb (kind_in w) 3 && eqb n (size_in w))
   unfolding outcome_of of_kind size_of same_size has_size
   size-by-kind n =
-      by_kind (λ k. has_size (some n) (of_kind k (guess_in w) (size_in w)) ≡ (eqb k 3 && eqb n (size_in w)))
+      by_kind (λ k. has_size (Some n) (of_kind k (guess_in w) (size_in w)) ≡ (eqb k 3 && eqb n (size_in w)))
       refl refl refl refl
 
   -- a known word's size
-  pub known-size : is_known (outcome_of w) ≡ true → size_of (outcome_of w) ≡ some (size_in w)
+  pub known-size : is_known (outcome_of w) ≡ true → size_of (outcome_of w) ≡ Some (size_in w)
   unfolding outcome_of of_kind size_of
   known-size known = rw (eqb-true (kind_in w) 3 (sym known-by-kind ∙ known))
 
@@ -114,7 +115,7 @@ outcome-of-word (sized g n) =
     simp (kind, guess, size)
 
 -- the word of an outcome whose size is at most 65,535 is not bad
-pub good-word : (o : Outcome) → ((n : ℕ) → size_of o ≡ some n → n ≤ 65535) → is_bad (word_of o) ≡ false
+pub good-word : (o : Outcome) → ((n : ℕ) → size_of o ≡ Some n → n ≤ 65535) → is_bad (word_of o) ≡ false
 unfolding is_bad word_of size_of
 good-word unresolved h = refl
 good-word (failed true) h = refl
@@ -126,14 +127,14 @@ good-word (sized g n) h =
     simp (kind, size) (le-ltb 65535 n (h n refl))
 
 -- a known outcome has a size, and any other has none
-pub size-known : (o : Outcome) → is_known o ≡ true → (n : ℕ) × (size_of o ≡ some n)
+pub size-known : (o : Outcome) → is_known o ≡ true → (n : ℕ) × (size_of o ≡ Some n)
 unfolding is_known size_of
 size-known unresolved h = absurd (not-both h refl)
 size-known (failed guess) h = absurd (not-both h refl)
 size-known (unknown guess) h = absurd (not-both h refl)
 size-known (sized guess size) h = (size, refl)
 
-pub no_size : (o : Outcome) → is_known o ≡ false → size_of o ≡ none
+pub no_size : (o : Outcome) → is_known o ≡ false → size_of o ≡ None
 unfolding is_known size_of
 no_size unresolved h = refl
 no_size (failed guess) h = refl
@@ -141,7 +142,7 @@ no_size (unknown guess) h = refl
 no_size (sized guess size) h = absurd (not-both refl h)
 
 -- an outcome with a size is resolved and known
-pub sized-known : (o : Outcome) {n : ℕ} → size_of o ≡ some n → (is_resolved o ≡ true) × (is_known o ≡ true)
+pub sized-known : (o : Outcome) {n : ℕ} → size_of o ≡ Some n → (is_resolved o ≡ true) × (is_known o ≡ true)
 unfolding is_resolved is_known size_of
 sized-known unresolved {n} h = absurd (none-ne-some n h)
 sized-known (failed guess) {n} h = absurd (none-ne-some n h)
@@ -149,7 +150,7 @@ sized-known (unknown guess) {n} h = absurd (none-ne-some n h)
 sized-known (sized guess size) h = (refl, refl)
 
 -- a known size is at most 65,535 in a word that is not bad
-pub small_size : (w : ℕ) → is_bad w ≡ false → (n : ℕ) → size_of (outcome_of w) ≡ some n → n ≤ 65535
+pub small_size : (w : ℕ) → is_bad w ≡ false → (n : ℕ) → size_of (outcome_of w) ≡ Some n → n ≤ 65535
 small_size w good n size =
     let known = (sized-known (outcome_of w) size).1 in
     let same : size_in w ≡ n = cc (known-size w known) in
@@ -159,7 +160,7 @@ small_size w good n size =
 pub record Spelt (w : ℕ) : Type 0 where
   pub outcome : Outcome
   pub word : word_of outcome ≡ w
-  pub small : (n : ℕ) → size_of outcome ≡ some n → n ≤ 65535
+  pub small : (n : ℕ) → size_of outcome ≡ Some n → n ≤ 65535
 
 pub good-spelt : (w : ℕ) → is_bad w ≡ false → Spelt w
 good-spelt w good = record { outcome = outcome_of w; word = word-of-outcome w good; small = small_size w good }

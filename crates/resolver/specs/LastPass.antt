@@ -2,8 +2,7 @@
 -- least and only one outcome has it; otherwise it is 11, 12 or 13". Said of the outcomes, with no search for the
 -- least.
 -- In words: docs/MANUAL.md, 9.2.
-use Rattle.std.specs.Prelude.{◌≡◌, ◌⊎◌, Bool, true, List, ℕ, ◌<◌, length, get_or, set}
-use Rattle.std.proofs.Math.Option.{Option, some}
+use Rattle.std.specs.Prelude.{◌≡◌, ◌⊎◌, Bool, true, List, ℕ, ◌<◌, length, get_or, set, Option, Some}
 use Rattle.resolver.specs.Outcome.{Outcome, outcomes_of, size_of}
 use Rattle.resolver.specs.Outcome.Outcome.{unresolved}
 use Rattle.resolver.specs.Selection.{selection_says}
@@ -16,8 +15,8 @@ size_at os i = size_of (get_or os i unresolved)
 -- the outcome at an index has a known size, and every other known size is greater
 pub record OnlyLeast (os : List Outcome) (i : ℕ) : Type 0 where
   pub size : ℕ
-  pub known : size_at os i ≡ some size
-  pub others : (j t : ℕ) → (j ≡ i → ⊥) → size_at os j ≡ some t → size < t
+  pub known : size_at os i ≡ Some size
+  pub others : (j t : ℕ) → (j ≡ i → ⊥) → size_at os j ≡ Some t → size < t
 
 -- what the last pass answers on a list of outcomes, with room in the buffer
 pub record LastPass (os : List Outcome) (buffer : List ℕ) (r : Selection) (after : List ℕ) : Type 0 where
@@ -34,4 +33,4 @@ pub record LastPass (os : List Outcome) (buffer : List ℕ) (r : Selection) (aft
 -- buffer after
 abbrev pub OnLastPass : List ℕ → Bool → List ℕ → Selection → List ℕ → Type 0
 OnLastPass words last buffer r after =
-    last ≡ true → (os : List Outcome) → outcomes_of words ≡ some os → 0 < length buffer → LastPass os buffer r after
+    last ≡ true → (os : List Outcome) → outcomes_of words ≡ Some os → 0 < length buffer → LastPass os buffer r after

@@ -2,8 +2,7 @@
 -- 8·size. Kinds: 0 unresolved, 1 failed constraint, 2 resolved but unknown, 3 sized. Size is 0 to 65,535, and 0 unless
 -- sized. An unresolved word is exactly 0 and counts as a guess. Kinds 2 and 3 are resolved; kind 3 is known."
 -- In words: docs/MANUAL.md, 9.1.
-use Rattle.std.specs.Prelude.{Bool, true, false, not, ◌||◌, List, map, ℕ, ◌+◌, ◌*◌, ◌/◌, ◌%◌, ltb, eqb, length}
-use Rattle.std.proofs.Math.Option.{Option, none, some}
+use Rattle.std.specs.Prelude.{Bool, true, false, not, ◌||◌, List, map, ℕ, ◌+◌, ◌*◌, ◌/◌, ◌%◌, ltb, eqb, length, Option, None, Some}
 use Rattle.plain.specs.Choice.{select}
 use Rattle.plain.specs.Lists.{some_of}
 
@@ -44,7 +43,7 @@ is_bad w =
 
 -- up to 4,096 words, none of them bad, are a list of outcomes; any other words are a bad list
 unfoldable pub outcomes_of : List ℕ → Option (List Outcome)
-outcomes_of ws = select (ltb 4096 (length ws) || some_of is_bad ws) none (some (map outcome_of ws))
+outcomes_of ws = select (ltb 4096 (length ws) || some_of is_bad ws) None (Some (map outcome_of ws))
 
 -- the guess bit
 abbrev pub bit : Bool → ℕ
@@ -81,10 +80,10 @@ is_known (sized guess size) = true
 
 -- the size, where it is known
 unfoldable pub size_of : Outcome → Option ℕ
-size_of unresolved = none
-size_of (failed guess) = none
-size_of (unknown guess) = none
-size_of (sized guess size) = some size
+size_of unresolved = None
+size_of (failed guess) = None
+size_of (unknown guess) = None
+size_of (sized guess size) = Some size
 
 -- the same outcome as a guess; an unresolved one has no guess bit
 unfoldable pub as_guess : Outcome → Outcome

@@ -1,7 +1,6 @@
 -- What the passes over a list of words find. The call's own promise does not mention these: they are what its private
 -- functions promise each other.
-use Rattle.std.specs.Prelude.{◌≡◌, List, map, ℕ, ◌+◌, ◌-◌, ◌%◌, leb}
-use Rattle.std.proofs.Math.Option.{Option, none, some}
+use Rattle.std.specs.Prelude.{◌≡◌, List, map, ℕ, ◌+◌, ◌-◌, ◌%◌, leb, Option, None, Some}
 use Rattle.plain.specs.Choice.{select}
 use Rattle.plain.specs.Lists.{count}
 use Rattle.resolver.specs.Outcome.{Outcome, kind_in, outcome_of, is_bad, is_guess, is_resolved, is_known}
@@ -16,8 +15,8 @@ pub record Tallied (ws : List ℕ) (bad resolved known guesses : ℕ) : Type 0 w
 
 -- a size, or 65,536, which is more than any
 abbrev pub or_more : Option ℕ → ℕ
-or_more none = 65536
-or_more (some s) = s
+or_more None = 65536
+or_more (Some s) = s
 
 -- the least of the known sizes, or 65,536 for none, and how many outcomes have it
 pub record Smallest (os : List Outcome) (size times : ℕ) : Type 0 where

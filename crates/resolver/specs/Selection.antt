@@ -4,8 +4,7 @@
 -- the indices are written as 16-bit numbers at the buffer's start, the rest unchanged, and the count returned. Marks
 -- are made on 0 and 13 only."
 -- In words: docs/MANUAL.md, 9.2 and 9.3.
-use Rattle.std.specs.Prelude.{Bool, false, ◌&&◌, List, [], ◌∷◌, map, ℕ, min, ltb, eqb, length, get_or}
-use Rattle.std.proofs.Math.Option.{Option, none, some}
+use Rattle.std.specs.Prelude.{Bool, false, ◌&&◌, List, [], ◌∷◌, map, ℕ, min, ltb, eqb, length, get_or, Option, None, Some}
 use Rattle.plain.specs.Choice.{select}
 use Rattle.plain.specs.Buffers.{at_start}
 use Rattle.plain.specs.Lists.{range, keep_if, some_of, count}
@@ -21,20 +20,20 @@ marked os = select (some_of is_guess os) (map as_guess os) os
 
 -- the lesser of two sizes, where either is known
 unfoldable pub lesser : Option ℕ → Option ℕ → Option ℕ
-lesser none t = t
-lesser (some s) none = some s
-lesser (some s) (some t) = some (min s t)
+lesser None t = t
+lesser (Some s) None = Some s
+lesser (Some s) (Some t) = Some (min s t)
 
 -- the least of the known sizes
 unfoldable pub least_size : List Outcome → Option ℕ
-least_size [] = none
+least_size [] = None
 least_size (o ∷ os) = lesser (size_of o) (least_size os)
 
 -- both sizes are known, and they are equal
 unfoldable pub same_size : Option ℕ → Option ℕ → Bool
-same_size none t = false
-same_size (some s) none = false
-same_size (some s) (some t) = eqb s t
+same_size None t = false
+same_size (Some s) None = false
+same_size (Some s) (Some t) = eqb s t
 
 -- an outcome has a size
 unfoldable pub has_size : Option ℕ → Outcome → Bool
@@ -85,8 +84,8 @@ answer_on words last buffer os =
 
 -- the answer on words that are a list of outcomes, or 10: a bad list
 unfoldable pub answer_of : List ℕ → Bool → List ℕ → Option (List Outcome) → Selected
-answer_of words last buffer none = refusal words buffer 10 0
-answer_of words last buffer (some os) = answer_on words last buffer os
+answer_of words last buffer None = refusal words buffer 10 0
+answer_of words last buffer (Some os) = answer_on words last buffer os
 
 -- the whole call, on the words, whether this is the last pass, and the buffer
 unfoldable pub selected : List ℕ → Bool → List ℕ → Selected

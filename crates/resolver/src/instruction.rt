@@ -1,8 +1,7 @@
 // Size selection: `resolve_encoding` of src/asm/resolver/instruction.rs, over outcome words. It refuses a bad list
 // (10), a list with none resolved (11) or none known (12), a tie on the last pass (13) and a choice longer than its
 // buffer (14).
-ghost use Rattle.std.specs.Prelude.{◌≡◌, false, map, ◌≤◌, length};
-ghost use Rattle.std.proofs.Math.Option.{some};
+ghost use Rattle.std.specs.Prelude.{◌≡◌, false, map, ◌≤◌, length, Some};
 ghost use Rattle.plain.specs.Buffers.{at_start};
 ghost use Rattle.plain.specs.Lists.{some_of, count};
 ghost use Rattle.resolver.specs.Outcome.{outcome_of, word_of, is_bad, is_guess};
@@ -119,8 +118,8 @@ fn mark(words: &mut [u32], guesses: usize)
 // Writes the indices of the outcomes of a size at the buffer's start, ascending.
 fn write(words: &[u32], size: u32, chosen: &mut [u16])
     requires few { length words.now ≤ 4096 }
-    requires room { length (indices_of (some size) (map outcome_of words.now)) ≤ length chosen.old }
-    ensures written { chosen.new ≡ at_start (indices_of (some size) (map outcome_of words.now)) chosen.old }
+    requires room { length (indices_of (Some size) (map outcome_of words.now)) ≤ length chosen.old }
+    ensures written { chosen.new ≡ at_start (indices_of (Some size) (map outcome_of words.now)) chosen.old }
 {
     let mut at = 0;
     let mut i = 0;

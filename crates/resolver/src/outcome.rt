@@ -1,7 +1,6 @@
 // Outcome words, for the Rust's `InstructionMatchResolution` (src/asm/matcher/mod.rs): guess + 2·kind + 8·size. Kinds:
 // 0 unresolved, 1 failed constraint, 2 resolved but unknown, 3 sized.
-ghost use Rattle.std.specs.Prelude.{◌≡◌};
-ghost use Rattle.std.proofs.Math.Option.{some};
+ghost use Rattle.std.specs.Prelude.{◌≡◌, Some};
 ghost use Rattle.resolver.specs.Outcome.{kind_in, size_in, outcome_of, is_bad};
 ghost use Rattle.resolver.specs.Outcome.{is_guess, is_resolved, is_known};
 ghost use Rattle.resolver.specs.Selection.{has_size};
@@ -82,7 +81,7 @@ pub fn is_known(word: u32) -> bool
 
 // Whether the outcome is sized with this size.
 pub fn has_size(word: u32, wanted: u32) -> bool
-    ensures same { result ≡ has_size (some wanted) (outcome_of word) }
+    ensures same { result ≡ has_size (Some wanted) (outcome_of word) }
 {
     if !is_known(word) {
         return false;

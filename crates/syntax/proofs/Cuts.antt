@@ -5,7 +5,7 @@ use mathlib.Core.Path.{◌≡◌, refl, sym, ap, ap₂, ◌∙◌, subst}
 use mathlib.Core.Logic.{◌⊎◌, inl, inr, ⊎_elim, ◌↔◌}
 use mathlib.Core.Bool.{Bool, true, false, not, ◌&&◌, ◌||◌, or-false}
 use mathlib.Core.List.{List, [], ◌∷◌, ◌++◌}
-use mathlib.Core.Option.{Option, none, some}
+use Rattle.std.specs.Prelude.{Option, None, Some}
 use Prim.Native.Nat.{ℕ, zero, suc, ◌+◌, ◌-◌, ◌≤◌, ◌<◌}
 use native.Mathlib.Numerals.{add-one}
 use native.Mathlib.Decide.{ℕ_discrete, dec_lt}
@@ -31,7 +31,7 @@ use Rattle.syntax.proofs.Turns.{turn-wanted, turn-stray, turn_on}
 -- ---- the scan's steps
 
 module _ (line : List ℕ) (x l : ℕ) (fits : l ≤ length line) where
-  cut-end : (s : Search) → cut_from line x l l s ≡ none
+  cut-end : (s : Search) → cut_from line x l l s ≡ None
   unfolding cut_from searched
   cut-end s = ap (λ (bs : List ℕ). searched x bs l s) (slice_empty l line)
 
@@ -67,8 +67,8 @@ turn-taken x b s t e = go (is_wanted x b s) (is_stray b s) e
 turn-blank : (x b : ℕ) → is_whitespace b ≡ true → turn_of x b fresh ≡ Turn.On fresh
 unfolding turn_of is_wanted is_stray taken_in
 turn-blank x b w =
-    let none = no-bracket b (omega (arith, white-kind b w)) in
-    rw (w, none.0, none.1, none.2, none.3)
+    let plain = no-bracket b (omega (arith, white-kind b w)) in
+    rw (w, plain.0, plain.1, plain.2, plain.3)
 
 -- ---- the code's loop: it begins at the first byte other than whitespace, and holds this at each turn
 
@@ -116,7 +116,7 @@ module _ (line : List ℕ) (x from end : ℕ) (fits : end ≤ length line) where
       → t ≡ turn_of x (byte_at line at) s → follow t at (λ n. cut_from line x (at + 1) end n) ≡ cut_from line x from end fresh
   search-turns at s t now h e = sym (cut_step line x end fits at s t h e) ∙ now.same
 
-  pub search-ends : (at : ℕ) (s : Search) → Searching line x from end at s → end ≤ at → none ≡ cut_from line x from end fresh
+  pub search-ends : (at : ℕ) (s : Search) → Searching line x from end at s → end ≤ at → None ≡ cut_from line x from end fresh
   search-ends at s now h =
       let last : at ≡ end = omega arith in
       sym (ap (λ (k : ℕ). cut_from line x k end s) last ∙ cut-end line x end fits s) ∙ now.same
@@ -313,12 +313,12 @@ cut-one line x w p q a b = ordered (dec_lt p q) (dec_lt q p)
     ordered (no h) (no k) = omega (arith, h, k)
 
 -- so the search and the description are the same
-pub cut_at : (line : List ℕ) (x : ℕ) (w : Walker) → InLine line w → (p : ℕ) → (cut line x w ≡ some p) ↔ CutAt line x w p
+pub cut_at : (line : List ℕ) (x : ℕ) (w : Walker) → InLine line w → (p : ℕ) → (cut line x w ≡ Some p) ↔ CutAt line x w p
 cut_at line x w within p = (
   (λ e. subst (Cuts line x w) e (cut-is line x w within)),
   (λ q. go (cut line x w) (cut-is line x w within) q),
 )
   where
-    go : (o : Option ℕ) → Cuts line x w o → CutAt line x w p → o ≡ some p
-    go none n q = absurd (n p q)
-    go (some m) k q = ap {B = Option ℕ} some (cut-one line x w m p k q)
+    go : (o : Option ℕ) → Cuts line x w o → CutAt line x w p → o ≡ Some p
+    go None n q = absurd (n p q)
+    go (Some m) k q = ap {B = Option ℕ} Some (cut-one line x w m p k q)

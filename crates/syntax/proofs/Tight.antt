@@ -2,7 +2,7 @@
 -- stated over the contract itself, `Post`, so a weaker contract breaks it.
 use mathlib.Core.Path.{◌≡◌, refl, ap}
 use mathlib.Core.Bool.{Bool, true≢false, false≢true}
-use mathlib.Core.Option.{some_inj, none-ne-some, some-ne-none}
+use Rattle.plain.proofs.Options.{some_inj, none-ne-some, some-ne-none}
 use Prim.Native.Nat.{ℕ}
 use Rattle.plain.proofs.Answers.{one_answer, one_told}
 use Rattle.syntax.specs.Walker.{step_says}
@@ -31,7 +31,7 @@ steps_apart (Step.Stayed v) (Step.Past w) e = absurd (false≢true (ap (λ (p : 
 steps_apart (Step.Stayed v) (Step.Stayed w) e = ap (λ (p : Bool × Walker). Step.Stayed p.1) e
 
 pub cuts-apart : (r s : Lookahead) → cut_says r ≡ cut_says s → r ≡ s
-cuts-apart (Lookahead.At p) (Lookahead.At q) e = ap Lookahead.At (some_inj.0 e)
+cuts-apart (Lookahead.At p) (Lookahead.At q) e = ap Lookahead.At (some_inj e)
 cuts-apart (Lookahead.At p) Lookahead.Nothing e = absurd (some-ne-none p e)
 cuts-apart Lookahead.Nothing (Lookahead.At q) e = absurd (none-ne-some q e)
 cuts-apart Lookahead.Nothing Lookahead.Nothing e = refl

@@ -1,7 +1,6 @@
 -- The cut: where the line is limited for a parameter that a lookahead character follows.
 -- In words: docs/MANUAL.md, 3.4.
-use Rattle.std.specs.Prelude.{◌≡◌, Bool, true, false, ◌&&◌, ◌||◌, List, [], ◌∷◌, ℕ, suc, ◌+◌, ◌-◌, ◌≤◌, ◌<◌, eqb}
-use Rattle.std.proofs.Math.Option.{Option, none, some}
+use Rattle.std.specs.Prelude.{◌≡◌, Bool, true, false, ◌&&◌, ◌||◌, List, [], ◌∷◌, ℕ, suc, ◌+◌, ◌-◌, ◌≤◌, ◌<◌, eqb, Option, None, Some}
 use Rattle.std.proofs.Math.Seq.{slice}
 use Rattle.plain.specs.Choice.{select}
 use Rattle.plain.specs.Lists.{some_of, count}
@@ -42,8 +41,8 @@ pub record CutAt (line : List ℕ) (x : ℕ) (w : Walker) (p : ℕ) : Type 0 whe
 
 -- there is a cut at this place, or none at all
 abbrev pub Cuts : List ℕ → ℕ → Walker → Option ℕ → Type 0
-Cuts line x w (some p) = CutAt line x w p
-Cuts line x w none = (p : ℕ) → CutAt line x w p → ⊥
+Cuts line x w (Some p) = CutAt line x w p
+Cuts line x w None = (p : ℕ) → CutAt line x w p → ⊥
 
 -- Scanned, as the Rust does it: a byte that was neither wanted nor stray is taken in
 unfoldable pub taken_in : ℕ → Search → Search
@@ -57,13 +56,13 @@ unfoldable pub turn_of : ℕ → ℕ → Search → Turn
 turn_of x b s = select (is_wanted x b s) Turn.Cut (select (is_stray b s) Turn.Stray (Turn.On (taken_in b s)))
 
 abbrev pub follow : Turn → ℕ → (Search → Option ℕ) → Option ℕ
-follow Turn.Cut i go = some i
-follow Turn.Stray i go = none
+follow Turn.Cut i go = Some i
+follow Turn.Stray i go = None
 follow (Turn.On s) i go = go s
 
 -- the search through bytes that stand from place i on
 unfoldable pub searched : ℕ → List ℕ → ℕ → Search → Option ℕ
-searched x [] i s = none
+searched x [] i s = None
 searched x (b ∷ bs) i s = follow (turn_of x b s) i (λ t. searched x bs (suc i) t)
 
 abbrev pub fresh : Search
@@ -77,5 +76,5 @@ cut line x w = cut_from line x w.cursor w.limit fresh
 
 -- each answer's place
 abbrev pub cut_says : Lookahead → Option ℕ
-cut_says (Lookahead.At p) = some p
-cut_says Lookahead.Nothing = none
+cut_says (Lookahead.At p) = Some p
+cut_says Lookahead.Nothing = None

@@ -2,7 +2,7 @@
 use mathlib.Core.Path.{◌≡◌, refl, sym, subst, ◌∙◌}
 use mathlib.Core.Logic.{⊎_elim}
 use mathlib.Core.Bool.{true, false}
-use mathlib.Core.Option.{Option, none, some}
+use Rattle.std.specs.Prelude.{Option, None, Some}
 use mathlib.Core.List.{List}
 use Prim.Native.Nat.{ℕ, ◌≤◌, ◌<◌}
 use native.Mathlib.Omega.{arith}
@@ -24,11 +24,11 @@ use Rattle.trials.specs.Told.{says, listed_call, LineAccepted, checked_of}
 -- ---- the checks, in their order
 
 module _ (line sheet : List ℕ) (budget base : ℕ) where
-  pub bytes-bad : (p : ℕ) → fault_at line ≡ some p → Bad (BadLine p) ≡ checked_of line sheet budget base
+  pub bytes-bad : (p : ℕ) → fault_at line ≡ Some p → Bad (BadLine p) ≡ checked_of line sheet budget base
   unfolding checked_of
   bytes-bad p e = sym (rw (checked_of, e))
 
-  module _ (bytes : fault_at line ≡ none) where
+  module _ (bytes : fault_at line ≡ None) where
     pub extents-bad : sheet_fits sheet (length line) ≡ false → Bad BadSheet ≡ checked_of line sheet budget base
     unfolding checked_of
     extents-bad e = sym (rw (checked_of, bytes, e))
@@ -78,21 +78,21 @@ module _ (line sheet : List ℕ) (budget base : ℕ) where
   checked-as : CheckedAs (checked_of line sheet budget base)
   checked-as = by-line (fault_at line) refl
     where
-      by-base : fault_at line ≡ none → sheet_fits sheet (length line) ≡ true → budget_fits budget ≡ true → CheckedAs (checked_of line sheet budget base)
+      by-base : fault_at line ≡ None → sheet_fits sheet (length line) ≡ true → budget_fits budget ≡ true → CheckedAs (checked_of line sheet budget base)
       by-base f g h =
           ⊎_elim
           (λ e. subst CheckedAs (accepted f g h e) (accepts (record { bytes = f; extents = g; visits = h; origin = e })))
           (λ e. subst CheckedAs (beyond f g h e) (refuses (λ t table rules b. sym (bad-base (λ s. rules) t line sheet budget base b table f g h e))))
           (tested (base_fits base))
 
-      by-budget : fault_at line ≡ none → sheet_fits sheet (length line) ≡ true → CheckedAs (checked_of line sheet budget base)
+      by-budget : fault_at line ≡ None → sheet_fits sheet (length line) ≡ true → CheckedAs (checked_of line sheet budget base)
       by-budget f g =
           ⊎_elim
           (λ e. by-base f g e)
           (λ e. subst CheckedAs (refused f g e) (refuses (λ t table rules b. sym (bad-budget (λ s. rules) t line sheet budget base b table f g e))))
           (tested (budget_fits budget))
 
-      by-sheet : fault_at line ≡ none → CheckedAs (checked_of line sheet budget base)
+      by-sheet : fault_at line ≡ None → CheckedAs (checked_of line sheet budget base)
       by-sheet f =
           ⊎_elim
           (λ g. by-budget f g)
@@ -100,8 +100,8 @@ module _ (line sheet : List ℕ) (budget base : ℕ) where
           (tested (sheet_fits sheet (length line)))
 
       by-line : (o : Option ℕ) → fault_at line ≡ o → CheckedAs (checked_of line sheet budget base)
-      by-line none f = by-sheet f
-      by-line (some p) f = subst CheckedAs (bytes-bad p f) (refuses (λ t table rules b. sym (bad-line (λ s. rules) t line sheet budget base b p table f)))
+      by-line None f = by-sheet f
+      by-line (Some p) f = subst CheckedAs (bytes-bad p f) (refuses (λ t table rules b. sym (bad-line (λ s. rules) t line sheet budget base b p table f)))
 
   module _ {r : Checked} (is : r ≡ checked_of line sheet budget base) where
     -- a refusal of the line's checks is the whole call's, for an accepted table

@@ -1,6 +1,5 @@
 -- What an answer says: document 01's number and fields for each case. And what the steps of a line's call give.
-use Rattle.std.specs.Prelude.{◌≡◌, true, not, List, [], map, ℕ, ◌≤◌, ◌<◌, length, get_or, take}
-use Rattle.std.proofs.Math.Option.{Option, none, some}
+use Rattle.std.specs.Prelude.{◌≡◌, true, not, List, [], map, ℕ, ◌≤◌, ◌<◌, length, get_or, take, Option, None, Some}
 use Rattle.plain.specs.Choice.{select}
 use Rattle.plain.specs.Told.{Told}
 use Rattle.line.specs.Line.{fault_at}
@@ -52,14 +51,14 @@ listed_call rules = call_with (λ s. rules)
 
 -- what line, sheet, budget and base must have for none of 3, 4, 5 and 19
 pub record LineAccepted (line sheet : List ℕ) (budget base : ℕ) : Type 0 where
-  pub bytes : fault_at line ≡ none
+  pub bytes : fault_at line ≡ None
   pub extents : sheet_fits sheet (length line) ≡ true
   pub visits : budget_fits budget ≡ true
   pub origin : base_fits base ≡ true
 
 abbrev pub lined_check : Option ℕ → Checked → Checked
-lined_check none r = r
-lined_check (some p) r = Bad (BadLine p)
+lined_check None r = r
+lined_check (Some p) r = Bad (BadLine p)
 
 -- the line's checks run 3, 4, 5, 19
 unfoldable pub checked_of : List ℕ → List ℕ → ℕ → ℕ → Checked

@@ -2,7 +2,7 @@
 -- no record has as its invariant that the plan from here, with the visits left, comes to what it comes to from the start.
 use mathlib.Core.Path.{◌≡◌, refl, sym, ap, subst, ◌∙◌}
 use mathlib.Core.Bool.{Bool, true, false, ◌&&◌}
-use mathlib.Core.Option.{Option, none, some}
+use Rattle.std.specs.Prelude.{Option, None, Some}
 use mathlib.Core.List.{List, [], ◌∷◌}
 use Prim.Native.Nat.{ℕ, ◌+◌, ◌-◌, ◌≤◌, ◌<◌}
 use native.Mathlib.Omega.{arith}
@@ -50,11 +50,11 @@ module _ (t line sheet : List ℕ) (l c : ℕ) where
   w = walker_at line l c
 
   module _ (x : ℕ) (step : Step) (says : step_says step ≡ expect_char line x w) where
-    pub exact_past : (next : Walker) → step ≡ Past next → exactly s l c x ≡ some next.cursor
+    pub exact_past : (next : Walker) → step ≡ Past next → exactly s l c x ≡ Some next.cursor
     unfolding exactly scene_of
     exact_past next e = ap went_to (sym says ∙ ap step_says e)
 
-    pub exact-stayed : {back : Walker} → step ≡ Stayed back → exactly s l c x ≡ none
+    pub exact-stayed : {back : Walker} → step ≡ Stayed back → exactly s l c x ≡ None
     unfolding exactly scene_of
     exact-stayed e = ap went_to (sym says ∙ ap step_says e)
 
@@ -134,10 +134,10 @@ module _ (t line sheet : List ℕ) (depth at to l c left u : ℕ) where
       unfolding rule_plan parts_plan walk nested_plan nest_turn
       at_nested e = ap (λ (ps : List Part). run (parts_plan t line sheet depth ps l c) left u) (opened t at to h k part is e) ∙ visit-more _ left u more
 
-      pub past-exact : {x d : ℕ} → part ≡ Exact x → exactly (scene_of t line sheet) l c x ≡ some d → from ≡ run (rule_plan t line sheet depth (at + 1) to l d) (left - 1) u
+      pub past-exact : {x d : ℕ} → part ≡ Exact x → exactly (scene_of t line sheet) l c x ≡ Some d → from ≡ run (rule_plan t line sheet depth (at + 1) to l d) (left - 1) u
       past-exact e q = at_exact e ∙ ap (λ (o : Option ℕ). run (after o (λ d. rule_plan t line sheet depth (at + 1) to l d)) (left - 1) u) q
 
-      pub no-exact : {x : ℕ} → part ≡ Exact x → exactly (scene_of t line sheet) l c x ≡ none → from ≡ done (left - 1) u []
+      pub no-exact : {x : ℕ} → part ≡ Exact x → exactly (scene_of t line sheet) l c x ≡ None → from ≡ done (left - 1) u []
       unfolding run
       no-exact e q = at_exact e ∙ ap (λ (o : Option ℕ). run (after o (λ d. rule_plan t line sheet depth (at + 1) to l d)) (left - 1) u) q
 
