@@ -1,26 +1,17 @@
 -- How tight the promises are: any two answers that a function's contract allows on the same arguments are equal. Each law is
 -- stated over the contract itself, `Post`, so a weaker contract breaks it.
-use mathlib.Core.Path.{◌≡◌, refl, sym, ◌∙◌}
+use mathlib.Core.Path.{◌≡◌, sym, ◌∙◌}
 use mathlib.Core.Bool.{Bool}
 use mathlib.Core.List.{List}
+use Rattle.std.specs.Prelude.{Option}
 use Prim.Native.Nat.{ℕ}
 use native.Mathlib.Omega.{arith}
 use lib.Seq.{ext_get_or}
-use Rattle.plain.proofs.Answers.{one_answer, one_told}
-use Rattle.extents.specs.Sheet.{end_of}
-use Rattle.extents.specs.declared.Extent.{Extent}
-use Rattle.extents.specs.declared.Extent.TheVariants.{Ends, Nothing}
+use Rattle.plain.proofs.Answers.{one_answer}
 use Rattle.extents.proofs.held_places.Reads as held-places
 use Rattle.extents.proofs.check_sheet.Reads as check-sheet
 use Rattle.extents.proofs.free.Reads as free
 use Rattle.extents.proofs.greedy.Reads as greedy
-
--- an answer is known by its end
-pub same-extent : (r s : Extent) → end_of r ≡ end_of s → r ≡ s
-same-extent (Ends d) (Ends e) h = cc
-same-extent (Ends d) Nothing h = cc
-same-extent Nothing (Ends e) h = cc
-same-extent Nothing Nothing h = refl
 
 pub held_places-tight : (κs a : _) (r s : List ℕ) (x y : _) → held-places.Post κs a r x → held-places.Post κs a s y → r ≡ s
 held_places-tight κs a r s x y p q =
@@ -29,8 +20,8 @@ held_places-tight κs a r s x y p q =
 pub check_sheet-tight : (κs a : _) (r s : Bool) (x y : _) → check-sheet.Post κs a r x → check-sheet.Post κs a s y → r ≡ s
 check_sheet-tight κs a r s x y = one_answer
 
-pub free-tight : (κs a : _) (r s : Extent) (x y : _) → free.Post κs a r x → free.Post κs a s y → r ≡ s
-free-tight κs a r s x y = one_told end_of same-extent _ r s
+pub free-tight : (κs a : _) (r s : Option ℕ) (x y : _) → free.Post κs a r x → free.Post κs a s y → r ≡ s
+free-tight κs a r s x y = one_answer
 
-pub greedy-tight : (κs a : _) (r s : Extent) (x y : _) → greedy.Post κs a r x → greedy.Post κs a s y → r ≡ s
-greedy-tight κs a r s x y = one_told end_of same-extent _ r s
+pub greedy-tight : (κs a : _) (r s : Option ℕ) (x y : _) → greedy.Post κs a r x → greedy.Post κs a s y → r ≡ s
+greedy-tight κs a r s x y = one_answer

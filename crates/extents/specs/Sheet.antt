@@ -6,8 +6,6 @@ use Rattle.plain.specs.Choice.{select}
 use Rattle.plain.specs.Below.{every_below}
 use Rattle.extents.specs.declared.Half.{Half}
 use Rattle.extents.specs.declared.Half.TheVariants.{Free, Greedy}
-use Rattle.extents.specs.declared.Extent.{Extent}
-use Rattle.extents.specs.declared.Extent.TheVariants.{Ends, Nothing}
 
 -- the sheet has 2(n+1)² bytes
 unfoldable pub sized : List ℕ → ℕ → Bool
@@ -77,8 +75,3 @@ free_end sheet n c l = end_in sheet n Free c l
 -- greedy(c, l)
 abbrev pub greedy_end : List ℕ → ℕ → ℕ → ℕ → Option ℕ
 greedy_end sheet n c l = end_in sheet n Greedy c l
-
--- the end that an answer names
-abbrev pub end_of : Extent → Option ℕ
-end_of (Ends e) = Some e
-end_of Nothing = None

@@ -9,7 +9,7 @@ ghost use Rattle.plain.specs.Below.{every_below};
 ghost use Rattle.extents.specs.Sheet.{sized, HasEntry, ReadAt, entry_at, entry_fits, fits_at, row_fits, half_fits, sheet_fits};
 ghost use Rattle.extents.specs.Held.{HeldPlaces};
 ghost use Rattle.extents.specs.declared.Half.TheVariants.{Free, Greedy};
-ghost use Rattle.extents.specs.Sheet.{entry_end, end_in, free_end, greedy_end, end_of};
+ghost use Rattle.extents.specs.Sheet.{entry_end, end_in, free_end, greedy_end};
 
 // An entry's byte that says: no expression here.
 const NONE: u8 = 255;
@@ -40,13 +40,6 @@ const SHORTEST_NARROW: usize = 7;
 pub enum Half {
     Free,
     Greedy,
-}
-
-// Where an expression ends, if there is one.
-#[derive(Clone, Copy)]
-pub enum Extent {
-    Ends(usize),
-    Nothing,
 }
 
 // Whether the sheet has the 2(n+1)² bytes of a line of n.
@@ -304,35 +297,35 @@ pub fn check_sheet(sheet: &[u8], n: usize) -> bool
 }
 
 // The end that an entry gives: 255 for none.
-fn entry_end(byte: u8) -> Extent
-    ensures end { end_of result ≡ entry_end byte }
+fn entry_end(byte: u8) -> Option<usize>
+    ensures end { result ≡ entry_end byte }
 {
     if byte == NONE {
-        return Extent::Nothing;
+        return None;
     }
-    Extent::Ends(byte as usize)
+    Some(byte as usize)
 }
 
 // The end that a half has for start c and limit l.
-fn end_in(sheet: &[u8], n: usize, half: Half, c: usize, l: usize) -> Extent
+fn end_in(sheet: &[u8], n: usize, half: Half, c: usize, l: usize) -> Option<usize>
     requires place { ReadAt sheet.now n c l }
-    ensures end { end_of result ≡ end_in sheet.now n half c l }
+    ensures end { result ≡ end_in sheet.now n half c l }
 {
     entry_end(entry(sheet, n, half, c, l))
 }
 
 // free(c, l): where the free parse from c under the limit l ends.
-pub fn free(sheet: &[u8], n: usize, c: usize, l: usize) -> Extent
+pub fn free(sheet: &[u8], n: usize, c: usize, l: usize) -> Option<usize>
     requires place { ReadAt sheet.now n c l }
-    ensures answers { end_of result ≡ free_end sheet.now n c l }
+    ensures answers { result ≡ free_end sheet.now n c l }
 {
     end_in(sheet, n, Half::Free, c, l)
 }
 
 // greedy(c, l): where the greedy decimal parse from c under the limit l ends.
-pub fn greedy(sheet: &[u8], n: usize, c: usize, l: usize) -> Extent
+pub fn greedy(sheet: &[u8], n: usize, c: usize, l: usize) -> Option<usize>
     requires place { ReadAt sheet.now n c l }
-    ensures answers { end_of result ≡ greedy_end sheet.now n c l }
+    ensures answers { result ≡ greedy_end sheet.now n c l }
 {
     end_in(sheet, n, Half::Greedy, c, l)
 }

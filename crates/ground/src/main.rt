@@ -2,10 +2,10 @@
 // prints what it answers. The file stdout beside src/ has what document 01 says.
 #![tactic(auto)]
 
-use line::LineCheck;
+use line::BadLine;
 use std::io;
 use std::io::Write;
-use syntax::walker::{Lookahead, Walker};
+use syntax::walker::Walker;
 
 // Rules: `mov` and whitespace; `mo`; whitespace; `m` of a nested ruleset; `movab`.
 const OVERLAPS: [u16; 33] = [
@@ -35,8 +35,8 @@ fn cut<W: Write>(out: &mut W, line: &[u8], wanted: u8) -> io::Result<()> {
     say(out, line)?;
     say(out, b": ")?;
     match Walker::new(line).find_lookahead_char_index(line, wanted) {
-        Lookahead::At(place) => say_number(out, place)?,
-        Lookahead::Nothing => say(out, b"none")?,
+        Some(place) => say_number(out, place)?,
+        None => say(out, b"none")?,
     }
     say(out, b"\n")
 }
@@ -111,10 +111,10 @@ fn checked<W: Write>(out: &mut W, line: &[u8]) -> io::Result<()> {
     say_number(out, line.len())?;
     say(out, b": ")?;
     match line::check_line(line) {
-        LineCheck::Good => say(out, b"good\n"),
-        LineCheck::Bad { place } => {
+        Ok(()) => say(out, b"good\n"),
+        Err(BadLine { place }) => {
             say(out, b"3 at ")?;
-            say_number(out, place)?;
+            say_number(out, place as usize)?;
             say(out, b"\n")
         }
     }

@@ -1,7 +1,7 @@
 -- The line's fault, as a caller of the check is told it: none or its place, which is at most 120.
 use mathlib.Core.Path.{◌≡◌, refl, sym, ap, ◌∙◌}
 use mathlib.Core.Bool.{Bool, true, false}
-use Rattle.std.specs.Prelude.{Option, None, Some}
+use Rattle.std.specs.Prelude.{Option, None, Some, Result, Ok, Err}
 use Rattle.plain.proofs.Options.{none-ne-some, some_inj}
 use mathlib.Core.List.{List, [], ◌∷◌}
 use Prim.Native.Nat.{ℕ, suc, ◌+◌, ◌-◌, ◌≤◌, ◌<◌}
@@ -11,8 +11,7 @@ use lib.ListN.{length}
 use borrow.Author.Tests.{ltb-false}
 use Rattle.plain.specs.Choice.{select}
 use Rattle.line.specs.Line.{is_allowed, first_bad, ends_open, or_else, fault_at, numbered, line_says, line_verdict}
-use Rattle.line.specs.declared.LineCheck.{LineCheck}
-use Rattle.line.specs.declared.LineCheck.TheVariants.{Good, Bad}
+use Rattle.line.specs.declared.BadLine.{BadLine}
 
 first-within : (bs : List ℕ) (i p : ℕ) → first_bad bs i ≡ Some p → p < i + length bs
 unfolding first_bad
@@ -39,17 +38,17 @@ fault-small line p e = long (ltb 120 (length line)) refl e
     long true i q = omega (arith, some_inj q)
     long false i q = byte (first_bad line 0) refl (ltb-false 120 (length line) i) q
 
-module _ (line : List ℕ) (found : LineCheck) (says : line_says found ≡ line_verdict line) where
-  pub line-good : found ≡ Good → fault_at line ≡ None
+module _ (line : List ℕ) (found : Result Unit BadLine) (says : line_says found ≡ line_verdict line) where
+  pub line-good : found ≡ Ok tt → fault_at line ≡ None
   line-good e = go (fault_at line) (sym (ap line_says e) ∙ says)
     where
       go : (o : Option ℕ) → ◌≡◌ {A = ℕ × ℕ} (0, 0) (numbered o) → o ≡ None
       go None q = refl
       go (Some p) q = let z : ◌≡◌ {A = ℕ} 0 3 = ap (λ (x : ℕ × ℕ). x.0) q in absurd (omega arith)
 
-  pub line-bad : {p : ℕ} → found ≡ Bad p → fault_at line ≡ Some p
-  line-bad {p} e = go (fault_at line) (sym (ap line_says e) ∙ says)
+  pub line-bad : {bad : BadLine} → found ≡ Err bad → fault_at line ≡ Some bad.place
+  line-bad {bad} e = go (fault_at line) (sym (ap line_says e) ∙ says)
     where
-      go : (o : Option ℕ) → ◌≡◌ {A = ℕ × ℕ} (3, p) (numbered o) → o ≡ Some p
+      go : (o : Option ℕ) → ◌≡◌ {A = ℕ × ℕ} (3, bad.place) (numbered o) → o ≡ Some bad.place
       go None q = let z : ◌≡◌ {A = ℕ} 3 0 = ap (λ (x : ℕ × ℕ). x.0) q in absurd (omega arith)
       go (Some r) q = ap Some (sym (ap (λ (x : ℕ × ℕ). x.1) q))

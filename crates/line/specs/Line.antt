@@ -1,12 +1,11 @@
 -- What a line is, and the place that number 3 returns for what is none.
 -- In words: docs/MANUAL.md, 2.1.
-use Rattle.std.specs.Prelude.{◌≡◌, Bool, true, false, not, ◌&&◌, ◌||◌, List, [], ◌∷◌, ℕ, suc, ◌-◌, ◌≤◌, ◌<◌, eqb, leb, ltb, length, Option, None, Some}
+use Rattle.std.specs.Prelude.{◌≡◌, Bool, true, false, not, ◌&&◌, ◌||◌, List, [], ◌∷◌, ℕ, suc, ◌-◌, ◌≤◌, ◌<◌, eqb, leb, ltb, length, Option, None, Some, Result, Ok, Err}
 use Rattle.plain.specs.Choice.{select}
 use Rattle.plain.specs.Between.{Between}
 use Rattle.token.specs.Token.{is_whitespace}
 use Rattle.syntax.specs.Walker.{byte_at}
-use Rattle.line.specs.declared.LineCheck.{LineCheck}
-use Rattle.line.specs.declared.LineCheck.TheVariants.{Good, Bad}
+use Rattle.line.specs.declared.BadLine.{BadLine}
 
 -- each byte is whitespace, or 33 to 126 except 59
 unfoldable pub is_allowed : ℕ → Bool
@@ -50,6 +49,6 @@ abbrev pub line_verdict : List ℕ → ℕ × ℕ
 line_verdict line = numbered (fault_at line)
 
 -- each answer's number and place
-abbrev pub line_says : LineCheck → ℕ × ℕ
-line_says Good = (0, 0)
-line_says (Bad p) = (3, p)
+abbrev pub line_says : Result Unit BadLine → ℕ × ℕ
+line_says (Ok _) = (0, 0)
+line_says (Err bad) = (3, bad.place)

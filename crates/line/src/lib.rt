@@ -20,11 +20,10 @@ const SEMICOLON: u8 = 59;
 // How many bytes of a line are tried at once.
 const WIDE: usize = 16;
 
-// Whether a line is one, and if not, the place that number 3 returns.
+// What a line is refused with: the place that number 3 returns.
 #[derive(Clone, Copy)]
-pub enum LineCheck {
-    Good,
-    Bad { place: usize },
+pub struct BadLine {
+    pub place: u32,
 }
 
 // Whether a line may hold the byte: whitespace, or 33 to 126 except 59.
@@ -111,22 +110,26 @@ fn first_bad(line: &[u8]) -> usize
 
 // At most 120 bytes, each one allowed, the last no whitespace. The place is 120 if the line is too long, else the
 // first bad byte's, else the last byte's.
-pub fn check_line(line: &[u8]) -> LineCheck
+pub fn check_line(line: &[u8]) -> Result<(), BadLine>
     ensures answers { line_says result ≡ line_verdict line.now }
 {
     if LONGEST < line.len() {
-        return LineCheck::Bad { place: LONGEST };
+        return Err(BadLine {
+            place: LONGEST as u32,
+        });
     }
     let bad = first_bad(line);
     if bad < line.len() {
-        return LineCheck::Bad { place: bad };
+        return Err(BadLine { place: bad as u32 });
     }
     if 0 < line.len() {
         let place = line.len() - 1;
         let last = line[place];
         if token::is_whitespace(last) {
-            return LineCheck::Bad { place };
+            return Err(BadLine {
+                place: place as u32,
+            });
         }
     }
-    LineCheck::Good
+    Ok(())
 }

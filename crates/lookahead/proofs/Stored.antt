@@ -16,18 +16,13 @@ use Rattle.plain.proofs.Lists.{listed-length, listed_at, listed-set}
 use Rattle.plain.proofs.Tests.{and_left}
 use Rattle.syntax.specs.Walker.{held, moved_to, useful}
 use Rattle.syntax.specs.declared.walker.Walker.{Walker}
-use Rattle.syntax.specs.Cut.{cut_says}
-use Rattle.syntax.specs.declared.walker.Lookahead.{Lookahead}
-use Rattle.syntax.specs.declared.walker.Lookahead.TheVariants.{At, Nothing}
 use Rattle.syntax.proofs.Useful.{InLine, held-is-within}
 use Rattle.defs.specs.declared.ruledef.Part.{Part}
-use Rattle.extents.specs.Sheet.{sized, sheet_fits, ReadAt, free_end, greedy_end, end_of}
-use Rattle.extents.specs.declared.Extent.{Extent}
+use Rattle.extents.specs.Sheet.{sized, sheet_fits, ReadAt, free_end, greedy_end}
 use Rattle.readings.specs.Scene.{Scene, walker_at, scene_of}
 use Rattle.readings.proofs.Packed.{lawful}
 use Rattle.readings.specs.Walk.{lookahead, cut_by, cut_for, list_of, unless, any_same, same_end, free_under, ends, limits}
-use Rattle.lookahead.specs.Held.{char_says, held_ends, held_limits, added}
-use Rattle.lookahead.specs.declared.Character.{Character}
+use Rattle.lookahead.specs.Held.{held_ends, held_limits, added}
 use Rattle.lookahead.specs.declared.Ends.{Ends}
 use Rattle.lookahead.specs.declared.Limits.{Limits}
 use Rattle.lookahead.proofs.Added.{added-few}
@@ -116,24 +111,24 @@ module _ (same : ℕ → ℕ → Bool) (es : List ℕ) (x : Ends) (is : x ≡ he
   unfolding held_ends
   listed-ends = ap (λ (y : Ends). take y.count y.places) is ∙ read_back 3 es (omega (arith, many))
 
-  module _ (o : Extent) where
-    pub add_none : o ≡ Extent.Nothing → x ≡ held_ends (added same es (end_of o))
+  module _ (o : Option ℕ) where
+    pub add_none : o ≡ None → x ≡ held_ends (added same es o)
     unfolding added
-    add_none h = is ∙ ap (λ (y : Extent). held_ends (added same es (end_of y))) (sym h)
+    add_none h = is ∙ ap (λ (y : Option ℕ). held_ends (added same es y)) (sym h)
 
-    module _ (e : ℕ) (b : Bool) (ends_at : o ≡ Extent.Ends e) (told : b ≡ any_same same (take x.count x.places) e) where
-      judged : (u : Bool) → b ≡ u → added same es (end_of o) ≡ es ++ unless u e []
+    module _ (e : ℕ) (b : Bool) (ends_at : o ≡ Some e) (told : b ≡ any_same same (take x.count x.places) e) where
+      judged : (u : Bool) → b ≡ u → added same es o ≡ es ++ unless u e []
       unfolding added
       judged u h =
-          ap (λ (y : Extent). added same es (end_of y)) ends_at
+          ap (λ (y : Option ℕ). added same es y) ends_at
           ∙ ap (λ (v : Bool). es ++ unless v e []) (ap (λ (l : List ℕ). any_same same l e) (sym listed-ends) ∙ sym told ∙ h)
 
       -- a duplicate is left out
-      pub add_same : b ≡ true → x ≡ held_ends (added same es (end_of o))
+      pub add_same : b ≡ true → x ≡ held_ends (added same es o)
       add_same h = is ∙ ap held_ends (sym (judged true h ∙ append-nil es))
 
       -- any other is the last
-      pub add-new : b ≡ false → ◌≡◌ {A = Ends} (record { count = x.count + 1; places = set x.places x.count e }) (held_ends (added same es (end_of o)))
+      pub add-new : b ≡ false → ◌≡◌ {A = Ends} (record { count = x.count + 1; places = set x.places x.count e }) (held_ends (added same es o))
       unfolding held_ends
       add-new h = (λ i. record { count = counted i; places = placed i }) ∙ ap held_ends (sym (judged false h))
         where
@@ -148,17 +143,10 @@ module _ (same : ℕ → ℕ → Bool) (es : List ℕ) (x : Ends) (is : x ≡ he
 
 -- ---- the cut, and the free end under it
 
-module _ (s : Scene) (l c : ℕ) (ps : List Part) (x : Character) (is : char_says x ≡ lookahead ps) where
-  pub cut_of : (y : Character) → x ≡ y → cut_by s l c (char_says y) ≡ cut_for s l c ps
+module _ (s : Scene) (l c : ℕ) (ps : List Part) (x : Option ℕ) (is : x ≡ lookahead ps) where
+  pub cut_of : (y : Option ℕ) → x ≡ y → cut_by s l c y ≡ cut_for s l c ps
   unfolding cut_for
-  cut_of y e = ap (cut_by s l c) (ap char_says (sym e) ∙ is)
-
-module _ (sheet : List ℕ) (n c : ℕ) (cut : Lookahead) where
-  pub free-at : (m : ℕ) → cut ≡ At m → free_end sheet n c m ≡ free_under (free_end sheet n) c (cut_says cut)
-  free-at m e = ap (λ (x : Lookahead). free_under (free_end sheet n) c (cut_says x)) (sym e)
-
-  pub free-none : cut ≡ Nothing → None ≡ free_under (free_end sheet n) c (cut_says cut)
-  free-none e = ap (λ (x : Lookahead). free_under (free_end sheet n) c (cut_says x)) (sym e)
+  cut_of y e = ap (cut_by s l c) (sym e ∙ is)
 
 -- what is read of a good sheet by a walker that stands within the line: the entry under its limit, and the one under its cut
 module _ (t line sheet : List ℕ) (good : sheet_fits sheet (length line) ≡ true) (w : Walker) (order : w.cursor ≤ w.limit) (limit : w.limit ≤ length line) {c : ℕ} (cursor-is : c ≡ w.cursor) where
@@ -174,8 +162,8 @@ module _ (t line sheet : List ℕ) (good : sheet_fits sheet (length line) ≡ tr
   cut-between m (Some x) e = (lawful t line sheet good).cut_within x w.limit w.cursor m order e
 
   pub read-cut :
-      (ps : List Part) (cut : Lookahead) → cut_says cut ≡ cut_for (scene_of t line []) w.limit w.cursor ps →
-      (m : ℕ) → cut_says cut ≡ Some m → ReadAt sheet (length line) c m
+      (ps : List Part) (cut : Option ℕ) → cut ≡ cut_for (scene_of t line []) w.limit w.cursor ps →
+      (m : ℕ) → cut ≡ Some m → ReadAt sheet (length line) c m
   unfolding cut_for
   read-cut ps cut at m e =
       let between = cut-between m (lookahead ps) (sym (sheet-free t line [] sheet w.limit w.cursor ps) ∙ sym at ∙ e) in
@@ -197,41 +185,41 @@ module _ (same : ℕ → ℕ → Bool) (a : Option ℕ) (x : Ends) where
   unfolding held_ends
   room-three b is = omega (arith, ap (λ (y : Ends). y.count) is, added-few same [] a, added-few same (added same [] a) b)
 
-module _ (t line sheet : List ℕ) (w : Walker) (l c : ℕ) (limit_is : l ≡ w.limit) (cursor-is : c ≡ w.cursor) (ps : List Part) (a b g : Extent) (cut : Lookahead)
-    (first : end_of a ≡ free_end sheet (length line) c l)
-    (at : cut_says cut ≡ cut_for (scene_of t line []) w.limit w.cursor ps)
-    (second : end_of b ≡ free_under (free_end sheet (length line)) c (cut_says cut))
-    (third : end_of g ≡ greedy_end sheet (length line) c l) where
+module _ (t line sheet : List ℕ) (w : Walker) (l c : ℕ) (limit_is : l ≡ w.limit) (cursor-is : c ≡ w.cursor) (ps : List Part) (a b g : Option ℕ) (cut : Option ℕ)
+    (first : a ≡ free_end sheet (length line) c l)
+    (at : cut ≡ cut_for (scene_of t line []) w.limit w.cursor ps)
+    (second : b ≡ free_under (free_end sheet (length line)) c cut)
+    (third : g ≡ greedy_end sheet (length line) c l) where
   abbrev same : ℕ → ℕ → Bool
   same = same_end line w.limit
 
-  first-is : end_of a ≡ free_end sheet (length line) w.cursor w.limit
+  first-is : a ≡ free_end sheet (length line) w.cursor w.limit
   first-is = cc
 
-  second_is : end_of b ≡ free_under (free_end sheet (length line)) w.cursor (cut_for (scene_of t line sheet) w.limit w.cursor ps)
+  second_is : b ≡ free_under (free_end sheet (length line)) w.cursor (cut_for (scene_of t line sheet) w.limit w.cursor ps)
   second_is =
-      second ∙ ap (λ (n : ℕ). free_under (free_end sheet (length line)) n (cut_says cut)) cursor-is
+      second ∙ ap (λ (n : ℕ). free_under (free_end sheet (length line)) n cut) cursor-is
       ∙ ap (free_under (free_end sheet (length line)) w.cursor) (at ∙ sheet-free t line [] sheet w.limit w.cursor ps)
 
-  third-is : end_of g ≡ greedy_end sheet (length line) w.cursor w.limit
+  third-is : g ≡ greedy_end sheet (length line) w.cursor w.limit
   third-is = cc
 
-  pub ends_held : held_ends (added same (added same (added same [] (end_of a)) (end_of b)) (end_of g)) ≡ held_ends (ends (scene_of t line sheet) w.limit w.cursor ps)
+  pub ends_held : held_ends (added same (added same (added same [] a) b) g) ≡ held_ends (ends (scene_of t line sheet) w.limit w.cursor ps)
   unfolding scene_of
   ends_held = cc (first-is, second_is, third-is, ends-added (scene_of t line sheet) w.limit w.cursor ps)
 
 -- ---- the limits
 
-module _ (s : Scene) (l c : ℕ) (ps : List Part) (cut : Lookahead) (at : cut_says cut ≡ cut_for s l c ps) where
-  told : (o : Lookahead) → cut ≡ o → held_limits (l ∷ list_of (cut_says o)) ≡ held_limits (limits s l c ps)
+module _ (s : Scene) (l c : ℕ) (ps : List Part) (cut : Option ℕ) (at : cut ≡ cut_for s l c ps) where
+  told : (o : Option ℕ) → cut ≡ o → held_limits (l ∷ list_of o) ≡ held_limits (limits s l c ps)
   unfolding limits
-  told o is = ap (λ (x : Option ℕ). held_limits (l ∷ list_of x)) (ap cut_says (sym is) ∙ at)
+  told o is = ap (λ (x : Option ℕ). held_limits (l ∷ list_of x)) (sym is ∙ at)
 
   module _ (k : ℕ) (limit_is : k ≡ l) where
-    pub limits-cut : (m : ℕ) → cut ≡ At m → ◌≡◌ {A = Limits} (record { count = 2; places = k ∷ m ∷ [] }) (held_limits (limits s l c ps))
+    pub limits-cut : (m : ℕ) → cut ≡ Some m → ◌≡◌ {A = Limits} (record { count = 2; places = k ∷ m ∷ [] }) (held_limits (limits s l c ps))
     unfolding held_limits listed range
-    limits-cut m is = ap (λ (n : ℕ). record { count = 2; places = n ∷ m ∷ [] }) limit_is ∙ told (At m) is
+    limits-cut m is = ap (λ (n : ℕ). record { count = 2; places = n ∷ m ∷ [] }) limit_is ∙ told (Some m) is
 
-    pub limits-whole : cut ≡ Nothing → ◌≡◌ {A = Limits} (record { count = 1; places = k ∷ 0 ∷ [] }) (held_limits (limits s l c ps))
+    pub limits-whole : cut ≡ None → ◌≡◌ {A = Limits} (record { count = 1; places = k ∷ 0 ∷ [] }) (held_limits (limits s l c ps))
     unfolding held_limits listed range
-    limits-whole is = ap (λ (n : ℕ). record { count = 1; places = n ∷ 0 ∷ [] }) limit_is ∙ told Nothing is
+    limits-whole is = ap (λ (n : ℕ). record { count = 1; places = n ∷ 0 ∷ [] }) limit_is ∙ told None is

@@ -1,16 +1,9 @@
--- What the answers say, and the lists of ends and limits as the code holds them.
+-- The lists of ends and limits as the code holds them, and one candidate more.
 use Rattle.std.specs.Prelude.{Bool, List, [], ◌++◌, ℕ, length, get_or, Option, None, Some}
 use Rattle.plain.specs.Lists.{listed}
 use Rattle.readings.specs.Walk.{any_same, unless}
-use Rattle.lookahead.specs.declared.Character.{Character}
-use Rattle.lookahead.specs.declared.Character.TheVariants.{Found, Nothing}
 use Rattle.lookahead.specs.declared.Ends.{Ends}
 use Rattle.lookahead.specs.declared.Limits.{Limits}
-
--- the lookahead character, if there is one
-abbrev pub char_says : Character → Option ℕ
-char_says (Found x) = Some x
-char_says Nothing = None
 
 -- a list of ends as the code holds it: three places, 0 where there is none, and how many there are
 unfoldable pub held_ends : List ℕ → Ends

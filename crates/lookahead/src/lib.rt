@@ -7,29 +7,20 @@
 
 ghost use Rattle.std.specs.Prelude.{◌≡◌, true, List, [], ℕ, ◌≤◌, ◌<◌, length, take, Some};
 ghost use Rattle.syntax.specs.Walker.{useful};
-ghost use Rattle.syntax.specs.Cut.{cut_says};
 ghost use Rattle.useful.specs.Useful.{Lent};
 ghost use Rattle.defs.specs.Table.{parts_between};
-ghost use Rattle.extents.specs.Sheet.{sheet_fits, ReadAt, end_of, free_end};
+ghost use Rattle.extents.specs.Sheet.{sheet_fits, ReadAt, free_end};
 ghost use Rattle.readings.specs.Scene.{walker_at, scene_of};
 ghost use Rattle.readings.specs.Walk.{lookahead, cut_for, free_under, any_same, same_end, ends, limits};
-ghost use Rattle.lookahead.specs.Held.{char_says, held_ends, held_limits, added};
+ghost use Rattle.lookahead.specs.Held.{held_ends, held_limits, added};
 
 use defs::ruledef;
 use defs::ruledef::Part;
-use extents::Extent;
-use syntax::walker::{Lookahead, Walker};
+use syntax::walker::Walker;
 use useful::PLACES;
 
 // How many limits there are with a cut.
 const WITH_CUT: usize = 2;
-
-// The lookahead character of a parameter.
-#[derive(Clone, Copy)]
-pub enum Character {
-    Found(u8),
-    Nothing,
-}
 
 // An expression's candidate ends, in their order; 0 past their count.
 #[derive(Clone, Copy)]
@@ -58,29 +49,29 @@ fn within(table: &[u16], end: usize) -> usize
 
 // The next exact part from word place `at` to before `end`, over whitespace parts; none if a parameter or the end comes
 // first.
-pub fn find_lookahead_char(table: &[u16], at: usize, end: usize) -> Character
-    ensures answers { char_says result ≡ lookahead (parts_between table.now at end) }
+pub fn find_lookahead_char(table: &[u16], at: usize, end: usize) -> Option<u8>
+    ensures answers { result ≡ lookahead (parts_between table.now at end) }
 {
     let stop = within(table, end);
     let mut here = at;
     while here < stop {
         match ruledef::part_within(table, here) {
-            Part::Exact(b) => return Character::Found(b),
+            Part::Exact(b) => return Some(b),
             Part::Whitespace => here += 1,
-            Part::Expression => return Character::Nothing,
-            Part::Nested(_) => return Character::Nothing,
+            Part::Expression => return None,
+            Part::Nested(_) => return None,
         }
     }
-    Character::Nothing
+    None
 }
 
 // The cut of a parameter that the parts from `at` to before `end` follow, sought from the walker's cursor to its limit.
-pub fn find_cut(table: &[u16], line: &[u8], walker: Walker, at: usize, end: usize) -> Lookahead
-    ensures answers { cut_says result ≡ cut_for (scene_of table.now line.now []) walker.limit walker.cursor (parts_between table.now at end) }
+pub fn find_cut(table: &[u16], line: &[u8], walker: Walker, at: usize, end: usize) -> Option<usize>
+    ensures answers { result ≡ cut_for (scene_of table.now line.now []) walker.limit walker.cursor (parts_between table.now at end) }
 {
     match find_lookahead_char(table, at, end) {
-        Character::Found(wanted) => walker.find_lookahead_char_index(line, wanted),
-        Character::Nothing => Lookahead::Nothing,
+        Some(wanted) => walker.find_lookahead_char_index(line, wanted),
+        None => None,
     }
 }
 
@@ -112,14 +103,20 @@ fn is_duplicate(line: &[u8], useful: &[u8; PLACES], walker: Walker, ends: Ends, 
 
 // One candidate more: it stays unless one before it has the same useful place. Those that did not stay need no look, since
 // one that stayed has their useful place.
-fn add_end(line: &[u8], useful: &[u8; PLACES], walker: Walker, ends: Ends, extent: Extent) -> Ends
+fn add_end(
+    line: &[u8],
+    useful: &[u8; PLACES],
+    walker: Walker,
+    ends: Ends,
+    extent: Option<usize>,
+) -> Ends
     requires lent { Lent line.now useful.now }
     requires count_bound { ends.count < 3 }
-    ensures { (es : List ℕ) → ends ≡ held_ends es → result ≡ held_ends (added (same_end line.now walker.limit) es (end_of extent)) }
+    ensures { (es : List ℕ) → ends ≡ held_ends es → result ≡ held_ends (added (same_end line.now walker.limit) es extent) }
 {
     let end = match extent {
-        Extent::Ends(end) => end,
-        Extent::Nothing => return ends,
+        Some(end) => end,
+        None => return ends,
     };
     if is_duplicate(line, useful, walker, ends, end) {
         return ends;
@@ -134,13 +131,13 @@ fn add_end(line: &[u8], useful: &[u8; PLACES], walker: Walker, ends: Ends, exten
 }
 
 // free(c, cut), if there is a cut.
-fn free_to_cut(sheet: &[u8], n: usize, c: usize, cut: Lookahead) -> Extent
-    requires { (m : ℕ) → cut_says cut ≡ Some m → ReadAt sheet.now n c m }
-    ensures { end_of result ≡ free_under (free_end sheet.now n) c (cut_says cut) }
+fn free_to_cut(sheet: &[u8], n: usize, c: usize, cut: Option<usize>) -> Option<usize>
+    requires { (m : ℕ) → cut ≡ Some m → ReadAt sheet.now n c m }
+    ensures { result ≡ free_under (free_end sheet.now n) c cut }
 {
     match cut {
-        Lookahead::At(limit) => extents::free(sheet, n, c, limit),
-        Lookahead::Nothing => Extent::Nothing,
+        Some(limit) => extents::free(sheet, n, c, limit),
+        None => None,
     }
 }
 
@@ -180,11 +177,11 @@ pub fn find_limits(table: &[u16], line: &[u8], walker: Walker, at: usize, end: u
 {
     let whole = walker.get_cursor_limit();
     match find_cut(table, line, walker, at, end) {
-        Lookahead::At(cut) => Limits {
+        Some(cut) => Limits {
             count: WITH_CUT,
             places: [whole, cut],
         },
-        Lookahead::Nothing => Limits {
+        None => Limits {
             count: 1,
             places: [whole, 0],
         },

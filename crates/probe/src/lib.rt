@@ -8,7 +8,7 @@ ghost use Rattle.syntax.specs.Cut.{cut};
 ghost use Rattle.ruledef_map.specs.RuledefMap.{line_prefix, held_prefix, prefix_bytes, found_rules, put_rules};
 ghost use Rattle.probe.specs.Probe.{at, ends, stepped, placed};
 
-use syntax::walker::{Lookahead, Step, Walker};
+use syntax::walker::{Step, Walker};
 
 // A walker.
 #[repr(C)]
@@ -130,8 +130,8 @@ pub extern "C" fn probe_find_lookahead_char_index(
 {
     let here = Walker { cursor, limit };
     match here.find_lookahead_char_index(line, wanted) {
-        Lookahead::At(place) => ProbePlace { found: 1, place },
-        Lookahead::Nothing => ProbePlace { found: 0, place: 0 },
+        Some(place) => ProbePlace { found: 1, place },
+        None => ProbePlace { found: 0, place: 0 },
     }
 }
 

@@ -1,15 +1,13 @@
 -- How tight the promises are: any two answers that a function's contract allows on the same arguments are equal. Each law is
 -- stated over the contract itself, `Post`, so a weaker contract breaks it.
-use mathlib.Core.Path.{◌≡◌, refl, ap}
+use mathlib.Core.Path.{◌≡◌, ap}
 use mathlib.Core.Bool.{Bool, true≢false, false≢true}
-use Rattle.plain.proofs.Options.{some_inj, none-ne-some, some-ne-none}
+use Rattle.std.specs.Prelude.{Option}
 use Prim.Native.Nat.{ℕ}
 use Rattle.plain.proofs.Answers.{one_answer, one_told}
 use Rattle.syntax.specs.Walker.{step_says}
-use Rattle.syntax.specs.Cut.{cut_says}
 use Rattle.syntax.specs.declared.walker.Walker.{Walker}
 use Rattle.syntax.specs.declared.walker.Step.{Step}
-use Rattle.syntax.specs.declared.walker.Lookahead.{Lookahead}
 use Rattle.syntax.proofs.walker.Walker.new.Reads as new
 use Rattle.syntax.proofs.walker.Walker.is_over.Reads as is-over
 use Rattle.syntax.proofs.walker.Walker.get_cursor_index.Reads as get-cursor-index
@@ -29,12 +27,6 @@ steps_apart (Step.Past v) (Step.Past w) e = ap (λ (p : Bool × Walker). Step.Pa
 steps_apart (Step.Past v) (Step.Stayed w) e = absurd (true≢false (ap (λ (p : Bool × Walker). p.0) e))
 steps_apart (Step.Stayed v) (Step.Past w) e = absurd (false≢true (ap (λ (p : Bool × Walker). p.0) e))
 steps_apart (Step.Stayed v) (Step.Stayed w) e = ap (λ (p : Bool × Walker). Step.Stayed p.1) e
-
-pub cuts-apart : (r s : Lookahead) → cut_says r ≡ cut_says s → r ≡ s
-cuts-apart (Lookahead.At p) (Lookahead.At q) e = ap Lookahead.At (some_inj e)
-cuts-apart (Lookahead.At p) Lookahead.Nothing e = absurd (some-ne-none p e)
-cuts-apart Lookahead.Nothing (Lookahead.At q) e = absurd (none-ne-some q e)
-cuts-apart Lookahead.Nothing Lookahead.Nothing e = refl
 
 -- the promises
 
@@ -65,8 +57,8 @@ maybe_expect_char-tight κs a r s x y = one_told step_says steps_apart _ r s
 pub maybe_expect_whitespace-tight : (κs a : _) (r s : Step) (x y : _) → maybe-expect-whitespace.Post κs a r x → maybe-expect-whitespace.Post κs a s y → r ≡ s
 maybe_expect_whitespace-tight κs a r s x y = one_told step_says steps_apart _ r s
 
-pub find_lookahead_char_index-tight : (κs a : _) (r s : Lookahead) (x y : _) → find-lookahead-char-index.Post κs a r x → find-lookahead-char-index.Post κs a s y → r ≡ s
-find_lookahead_char_index-tight κs a r s x y = one_told cut_says cuts-apart _ r s
+pub find_lookahead_char_index-tight : (κs a : _) (r s : Option ℕ) (x y : _) → find-lookahead-char-index.Post κs a r x → find-lookahead-char-index.Post κs a s y → r ≡ s
+find_lookahead_char_index-tight κs a r s x y = one_answer
 
 pub least-tight : (κs a : _) (r s : ℕ) (x y : _) → least.Post κs a r x → least.Post κs a s y → r ≡ s
 least-tight κs a r s x y = one_answer

@@ -9,7 +9,6 @@ use Rattle.syntax.specs.Walker.{byte_at}
 use Rattle.syntax.specs.declared.walker.Walker.{Walker}
 use Rattle.syntax.specs.declared.walker.Search.{Search}
 use Rattle.syntax.specs.declared.walker.Turn.{Turn}
-use Rattle.syntax.specs.declared.walker.Lookahead.{Lookahead}
 
 -- the byte is the wanted one, case ignored, after some non-whitespace byte has passed and with both nestings at zero
 unfoldable pub is_wanted : ℕ → ℕ → Search → Bool
@@ -73,8 +72,3 @@ cut_from line x i l s = searched x (slice i l line) i s
 
 unfoldable pub cut : List ℕ → ℕ → Walker → Option ℕ
 cut line x w = cut_from line x w.cursor w.limit fresh
-
--- each answer's place
-abbrev pub cut_says : Lookahead → Option ℕ
-cut_says (Lookahead.At p) = Some p
-cut_says Lookahead.Nothing = None

@@ -6,7 +6,7 @@ ghost use Rattle.plain.specs.Choice.{select};
 ghost use Rattle.plain.specs.Lists.{listed};
 ghost use Rattle.syntax.specs.Walker.{held, over, moved_to, limited, useful_from, useful, step_says, expect_char, expect_whitespace};
 ghost use Rattle.token.specs.Token.{is_solid, same_letter, class_of};
-ghost use Rattle.syntax.specs.Cut.{is_stray, taken_in, turn_of, fresh, cut_says, cut_from, cut};
+ghost use Rattle.syntax.specs.Cut.{is_stray, taken_in, turn_of, fresh, cut_from, cut};
 
 // What marks a class in the table that is laid for a search: more than any class is.
 const MARK: u16 = 2048;
@@ -19,18 +19,12 @@ pub struct Walker {
     pub limit: usize,
 }
 
-// What asking for a byte finds: the walker past it, or the walker where it stood.
+// What asking for a byte finds: the walker past it, or the walker where it stood. An enum of its own: each move hands back the
+// moved walker, so both cases carry one, which an Option does not, and a byte that is not there is no error.
 #[derive(Clone, Copy)]
 pub enum Step {
     Past(Walker),
     Stayed(Walker),
-}
-
-// Where the line is cut for a parameter that a lookahead character follows.
-#[derive(Clone, Copy)]
-pub enum Lookahead {
-    At(usize),
-    Nothing,
 }
 
 // What the search for the cut knows of the bytes that it has passed.
@@ -158,9 +152,9 @@ impl Walker {
         Step::Stayed(here)
     }
 
-    // The place of the cut for a lookahead character.
-    pub fn find_lookahead_char_index(self, line: &[u8], wanted: u8) -> Lookahead
-        ensures answers { cut_says result ≡ cut line.now wanted (held line.now self) }
+    // Where the line is cut for a parameter that a lookahead character follows: the place of that character.
+    pub fn find_lookahead_char_index(self, line: &[u8], wanted: u8) -> Option<usize>
+        ensures answers { result ≡ cut line.now wanted (held line.now self) }
     {
         let here = self.hold(line);
         find_cut(line, here.cursor, here.limit, wanted)
@@ -303,10 +297,10 @@ fn take_in(s: Search, class: u16) -> Turn
 
 // The table is laid once for the search, not for each byte. Whitespace before the first other byte changes nothing, so it is
 // skipped; each byte after that leaves something seen.
-fn find_cut(line: &[u8], from: usize, end: usize, wanted: u8) -> Lookahead
+fn find_cut(line: &[u8], from: usize, end: usize, wanted: u8) -> Option<usize>
     requires from_le_end { from ≤ end }
     requires end_in_bounds { end ≤ length line.now }
-    ensures { cut_says result ≡ cut_from line.now wanted from end fresh }
+    ensures { result ≡ cut_from line.now wanted from end fresh }
 {
     let mut classes = token::classes();
     let mut at = skip_by_class(line, &classes, from, end);
@@ -319,13 +313,13 @@ fn find_cut(line: &[u8], from: usize, end: usize, wanted: u8) -> Lookahead
     while at < end {
         let b = line[at] as usize;
         match take_in(s, classes[b]) {
-            Turn::Cut => return Lookahead::At(at),
-            Turn::Stray => return Lookahead::Nothing,
+            Turn::Cut => return Some(at),
+            Turn::Stray => return None,
             Turn::On(next) => {
                 s = next;
                 at += 1;
             }
         }
     }
-    Lookahead::Nothing
+    None
 }

@@ -2,11 +2,11 @@
 use Rattle.lookahead.proofs.Stored.{add_none, add_same, add-new}
 use Rattle.lookahead.proofs.add_end.Goals as goal
 
-pub returns-in-Nothing : goal.returns-in-Nothing
-returns-in-Nothing c = λ es is. add_none _ es _ is c.requires.count_bound _ c.in-Nothing.is
+pub returns-in-None : goal.returns-in-None
+returns-in-None c = λ es is. add_none _ es _ is c.requires.count_bound _ c.in-None.is
 
 pub returns-then-is_duplicate : goal.returns-then-is_duplicate
-returns-then-is_duplicate c = λ es is. add_same _ es _ is c.requires.count_bound _ _ _ c.in-Ends.is c.is_duplicate.ensures c.if-is_duplicate.true
+returns-then-is_duplicate c = λ es is. add_same _ es _ is c.requires.count_bound _ _ _ c.in-Some.is c.is_duplicate.ensures c.if-is_duplicate.true
 
 pub returns : goal.returns
-returns c = λ es is. add-new _ es _ is c.requires.count_bound _ _ _ c.in-Ends.is c.is_duplicate.ensures c.if-is_duplicate.false
+returns c = λ es is. add-new _ es _ is c.requires.count_bound _ _ _ c.in-Some.is c.is_duplicate.ensures c.if-is_duplicate.false

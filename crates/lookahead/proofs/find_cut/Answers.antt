@@ -4,9 +4,9 @@ use Rattle.readings.specs.Scene.{scene_of}
 use Rattle.lookahead.proofs.Stored.{cut_of}
 use Rattle.lookahead.proofs.find_cut.Goals as goal
 
-pub returns-in-Found : goal.returns-in-Found
+pub returns-in-Some : goal.returns-in-Some
 unfolding scene_of
-returns-in-Found c = record { answers = c.find_lookahead_char_index.ensures.answers ∙ cut_of _ _ _ _ _ c.find_lookahead_char.ensures.answers _ c.in-Found.is }
+returns-in-Some c = record { answers = c.find_lookahead_char_index.ensures.answers ∙ cut_of _ _ _ _ _ c.find_lookahead_char.ensures.answers _ c.in-Some.is }
 
-pub returns-in-Nothing : goal.returns-in-Nothing
-returns-in-Nothing c = record { answers = cut_of _ _ _ _ _ c.find_lookahead_char.ensures.answers _ c.in-Nothing.is }
+pub returns-in-None : goal.returns-in-None
+returns-in-None c = record { answers = cut_of _ _ _ _ _ c.find_lookahead_char.ensures.answers _ c.in-None.is }
