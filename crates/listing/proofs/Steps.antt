@@ -28,8 +28,6 @@ use Rattle.printing.proofs.Refuses.{stops}
 use Rattle.fields.specs.Said.{Found, low_number}
 use Rattle.fields.proofs.Scans.{same_not, slice_cut}
 use Rattle.listing.specs.declared.judging.Sizes.{Sizes}
-use Rattle.listing.specs.declared.judging.Line.{Line}
-use Rattle.listing.specs.declared.judging.Line.TheVariants.{Fits, Bad}
 use Rattle.listing.specs.Judging.{fields_at, parts_said, Counted, LineSays}
 use Rattle.listing.proofs.Counts.{count_from, count-is, fields-over, fields_open, pieces-at, Said, Unsaid, counted, rule-more, More, more-rule}
 
@@ -254,7 +252,7 @@ module _ (t : Bytes) (at end tab : ℕ) (fits : end ≤ length t) (f : Found t a
         let z = rule-some d s r p l c (slice at tab t) (fields_at t tab end) n k low many h in
         (z.0, ap (λ (fs : List Bytes). add_rule d (rule_in fs)) (pieces-at t at end tab fits f) ∙ z.1, z.2)
 
-pub says-as : {o u : Option Data} (r : Line) → o ≡ u → LineSays o r → LineSays u r
+pub says-as : {o u : Option Data} (r : Option Sizes) → o ≡ u → LineSays o r → LineSays u r
 says-as {o} {u} r e h = subst (λ (x : Option Data). LineSays x r) e h
 
 -- ---- the whole text, from a line's first byte on
@@ -349,8 +347,8 @@ pub bad-at : {x : Read} {k n : ℕ} → k ≡ n → (x ≡ bad n) × (n ≤ 544)
 bad-at {x} {k} {n} e h = (h.0 ∙ ap bad (sym e), omega (arith, e, h.1))
 
 -- an answer on a line, case by case
-pub says-bad : (o : Option Data) (r : Line) → r ≡ Bad → LineSays o r → o ≡ None
+pub says-bad : (o : Option Data) (r : Option Sizes) → r ≡ None → LineSays o r → o ≡ None
 says-bad o r e h = subst (LineSays o) e h
 
-pub says-fits : (o : Option Data) (r : Line) (z : Sizes) → r ≡ Fits z → LineSays o r → (e : Data) × (o ≡ Some e) × Counted e z.sets z.rules z.parts z.last
+pub says-fits : (o : Option Data) (r : Option Sizes) (z : Sizes) → r ≡ Some z → LineSays o r → (e : Data) × (o ≡ Some e) × Counted e z.sets z.rules z.parts z.last
 says-fits o r z e h = subst (LineSays o) e h

@@ -9,52 +9,53 @@ use lib.Dec.{eqb}
 use Rattle.plain.specs.Choice.{select}
 use Rattle.plain.specs.Told.{Told}
 use Rattle.plain.proofs.Answers.{one_answer}
-use Rattle.listing.specs.declared.reading.ReadAnswer.{ReadAnswer}
-use Rattle.listing.specs.declared.reading.ReadAnswer.TheVariants as reading
-use Rattle.listing.specs.declared.writing.WriteAnswer.{WriteAnswer}
-use Rattle.listing.specs.declared.writing.WriteAnswer.TheVariants as writing
+use Rattle.std.specs.Prelude.{Result, Ok, Err}
+use Rattle.listing.specs.declared.reading.ReadError.{ReadError}
+use Rattle.listing.specs.declared.reading.ReadError.TheVariants as reading
+use Rattle.listing.specs.declared.writing.WriteError.{WriteError}
+use Rattle.listing.specs.declared.writing.WriteError.TheVariants as writing
 use Rattle.listing.specs.Calls.{read_says, write_says}
 use Rattle.listing.proofs.Told.{read_call-one}
 use Rattle.listing.proofs.reading.read_table.Reads as read_table
 use Rattle.listing.proofs.writing.write_table.Reads as write-table
 
 -- the case of a number and fields
-read-case : Told → ReadAnswer
-read-case r = select (eqb r.number 0) (reading.Read r.words) (select (eqb r.number 15) (reading.BadText r.place) reading.NoRoom)
+read-case : Told → Result ℕ ReadError
+read-case r = select (eqb r.number 0) (Ok r.words) (Err (select (eqb r.number 15) (reading.BadText r.place) reading.NoRoom))
 
-read_same : (a c : ReadAnswer) (b d : List ℕ) → read_says a b ≡ read_says c d → (a ≡ c) × (b ≡ d)
+read_same : (a c : Result ℕ ReadError) (b d : List ℕ) → read_says a b ≡ read_says c d → (a ≡ c) × (b ≡ d)
 unfolding read-case
 read_same a c b d e = (sym (back a b) ∙ ap read-case e ∙ back c d, sym (left a b) ∙ ap (λ (r : Told). r.buffer) e ∙ left c d)
   where
-    back : (q : ReadAnswer) (m : List ℕ) → read-case (read_says q m) ≡ q
-    back (reading.Read n) m = refl
-    back (reading.BadText k) m = refl
-    back reading.NoRoom m = refl
+    back : (q : Result ℕ ReadError) (m : List ℕ) → read-case (read_says q m) ≡ q
+    back (Ok n) m = refl
+    back (Err (reading.BadText k)) m = refl
+    back (Err reading.NoRoom) m = refl
 
-    left : (q : ReadAnswer) (m : List ℕ) → (read_says q m).buffer ≡ m
-    left (reading.Read n) m = refl
-    left (reading.BadText k) m = refl
-    left reading.NoRoom m = refl
+    left : (q : Result ℕ ReadError) (m : List ℕ) → (read_says q m).buffer ≡ m
+    left (Ok n) m = refl
+    left (Err (reading.BadText k)) m = refl
+    left (Err reading.NoRoom) m = refl
 
-write-case : Told → WriteAnswer
-write-case r = select (eqb r.number 0) (writing.Written r.words) (select (eqb r.number 2) writing.BadTable writing.NoRoom)
+write-case : Told → Result ℕ WriteError
+write-case r = select (eqb r.number 0) (Ok r.words) (Err (select (eqb r.number 2) writing.BadTable writing.NoRoom))
 
-write_same : (a c : WriteAnswer) (b d : List ℕ) → write_says a b ≡ write_says c d → (a ≡ c) × (b ≡ d)
+write_same : (a c : Result ℕ WriteError) (b d : List ℕ) → write_says a b ≡ write_says c d → (a ≡ c) × (b ≡ d)
 unfolding write-case
 write_same a c b d e = (sym (back a b) ∙ ap write-case e ∙ back c d, sym (left a b) ∙ ap (λ (r : Told). r.buffer) e ∙ left c d)
   where
-    back : (q : WriteAnswer) (m : List ℕ) → write-case (write_says q m) ≡ q
-    back (writing.Written n) m = refl
-    back writing.BadTable m = refl
-    back writing.NoRoom m = refl
+    back : (q : Result ℕ WriteError) (m : List ℕ) → write-case (write_says q m) ≡ q
+    back (Ok n) m = refl
+    back (Err writing.BadTable) m = refl
+    back (Err writing.NoRoom) m = refl
 
-    left : (q : WriteAnswer) (m : List ℕ) → (write_says q m).buffer ≡ m
-    left (writing.Written n) m = refl
-    left writing.BadTable m = refl
-    left writing.NoRoom m = refl
+    left : (q : Result ℕ WriteError) (m : List ℕ) → (write_says q m).buffer ≡ m
+    left (Ok n) m = refl
+    left (Err writing.BadTable) m = refl
+    left (Err writing.NoRoom) m = refl
 
-pub read_table-tight : (κs a : _) (r s : ReadAnswer) (x y : _) → read_table.Post κs a r x → read_table.Post κs a s y → (r ≡ s) × (x.1.0.now ≡ y.1.0.now)
+pub read_table-tight : (κs a : _) (r s : Result ℕ ReadError) (x y : _) → read_table.Post κs a r x → read_table.Post κs a s y → (r ≡ s) × (x.1.0.now ≡ y.1.0.now)
 read_table-tight κs a r s x y p q = read_same r s _ _ (read_call-one _ _ _ _ p q)
 
-pub write_table-tight : (κs a : _) (r s : WriteAnswer) (x y : _) → write-table.Post κs a r x → write-table.Post κs a s y → (r ≡ s) × (x.1.0.now ≡ y.1.0.now)
+pub write_table-tight : (κs a : _) (r s : Result ℕ WriteError) (x y : _) → write-table.Post κs a r x → write-table.Post κs a s y → (r ≡ s) × (x.1.0.now ≡ y.1.0.now)
 write_table-tight κs a r s x y p q = write_same r s _ _ (one_answer p q)

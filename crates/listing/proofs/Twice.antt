@@ -16,10 +16,9 @@ use Rattle.packing.specs.Packed.{packed, data_of}
 use Rattle.printing.specs.Listing.{Bytes, listing}
 use Rattle.printing.proofs.Accepts.{listings-apart}
 use Rattle.printing.proofs.Rounds.{text-again, table-again}
-use Rattle.listing.specs.declared.reading.ReadAnswer.{ReadAnswer}
-use Rattle.listing.specs.declared.reading.ReadAnswer.TheVariants as reading
-use Rattle.listing.specs.declared.writing.WriteAnswer.{WriteAnswer}
-use Rattle.listing.specs.declared.writing.WriteAnswer.TheVariants as writing
+use Rattle.std.specs.Prelude.{Result, Ok}
+use Rattle.listing.specs.declared.reading.ReadError.{ReadError}
+use Rattle.listing.specs.declared.writing.WriteError.{WriteError}
 use Rattle.listing.specs.Calls.{filled, wrote, ReadCall, listed, unlisted, write_call, read_says, write_says}
 use Rattle.listing.proofs.Told.{read_call-one}
 use Rattle.listing.proofs.reading.read_table.Reads as read_table
@@ -73,19 +72,19 @@ written-listing t room n b e =
 
 -- ---- the calls themselves
 
-pub text-survives : (κs a : _) (n : ℕ) (x : _) → read_table.Post κs a (reading.Read n) x → (λs b : _) (s : WriteAnswer) (y : _) → write-table.Post λs b s y
+pub text-survives : (κs a : _) (n : ℕ) (x : _) → read_table.Post κs a (Ok n) x → (λs b : _) (s : Result ℕ WriteError) (y : _) → write-table.Post λs b s y
     → b.0.now ≡ take n x.1.0.now → write_says s y.1.0.now ≡ wrote a.0.now b.1.0.now
 text-survives κs a n x p λs b s y q e =
     q ∙ ap (λ (t : List ℕ). write_call t b.1.0.now) e ∙ read-then-write a.0.now a.1.0.now b.1.0.now (filled n x.1.0.now) p refl
 
-pub table-survives : (κs a : _) (n : ℕ) (x : _) → write-table.Post κs a (writing.Written n) x → (λs b : _) (s : ReadAnswer) (y : _) → read_table.Post λs b s y
+pub table-survives : (κs a : _) (n : ℕ) (x : _) → write-table.Post κs a (Ok n) x → (λs b : _) (s : Result ℕ ReadError) (y : _) → read_table.Post λs b s y
     → b.0.now ≡ take n x.1.0.now → read_says s y.1.0.now ≡ wrote (packed (data_of a.0.now)) b.1.0.now
 table-survives κs a n x p λs b s y q e =
     write-then-read a.0.now a.1.0.now b.1.0.now (filled n x.1.0.now) (read_says s y.1.0.now) p refl
     (subst (λ (t : List ℕ). ReadCall t b.1.0.now (read_says s y.1.0.now)) e q)
 
 -- two tables that are written alike have the same rulesets and rules
-pub texts-apart : (κs a : _) (n : ℕ) (x : _) → write-table.Post κs a (writing.Written n) x → (λs b : _) (m : ℕ) (y : _) → write-table.Post λs b (writing.Written m) y
+pub texts-apart : (κs a : _) (n : ℕ) (x : _) → write-table.Post κs a (Ok n) x → (λs b : _) (m : ℕ) (y : _) → write-table.Post λs b (Ok m) y
     → take n x.1.0.now ≡ take m y.1.0.now → data_of a.0.now ≡ data_of b.0.now
 texts-apart κs a n x p λs b m y q e =
     listings-apart (data_of a.0.now) (data_of b.0.now)

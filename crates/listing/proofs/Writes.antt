@@ -27,7 +27,8 @@ use Rattle.printing.proofs.Pieces.{ended-append}
 use Rattle.printing.proofs.Decimals.{decimal-one, decimal-two}
 use Rattle.fields.specs.Laid.{Laid, Ready, part_text}
 use Rattle.fields.proofs.Laying.{Laying, laying-all, ready-as}
-use Rattle.listing.specs.declared.writing.WriteAnswer.TheVariants.{Written, BadTable, NoRoom}
+use Rattle.std.specs.Prelude.{Ok, Err}
+use Rattle.listing.specs.declared.writing.WriteError.TheVariants.{BadTable, NoRoom}
 use Rattle.listing.specs.Writing.{parts_text, rule_text, top_text, rules_text, tops_text}
 use Rattle.listing.specs.Calls.{filled, write_call, write_says}
 
@@ -215,15 +216,15 @@ text-ready t h = ready-as (sym (table-text t)) (record { small = omega (arith, l
 
 -- ---- the call's answers
 
-pub said-bad : (t : List ℕ) (room : Bytes) → table_fits t ≡ false → write_says BadTable room ≡ write_call t room
+pub said-bad : (t : List ℕ) (room : Bytes) → table_fits t ≡ false → write_says (Err BadTable) room ≡ write_call t room
 unfolding write_call
 said-bad t room h = sym (rw (write_call, h))
 
-pub said-short : (t : List ℕ) (room : Bytes) (n : ℕ) → table_fits t ≡ true → n ≡ length (listing (data_of t)) → length room < n → write_says NoRoom room ≡ write_call t room
+pub said-short : (t : List ℕ) (room : Bytes) (n : ℕ) → table_fits t ≡ true → n ≡ length (listing (data_of t)) → length room < n → write_says (Err NoRoom) room ≡ write_call t room
 unfolding write_call
 said-short t room n h e l = sym (rw (write_call, h, lt-leb (length (listing (data_of t))) (length room) (omega arith)))
 
-pub said-whole : (t : List ℕ) (room after : Bytes) (n m : ℕ) → table_fits t ≡ true → n ≡ length (listing (data_of t)) → n ≤ length room → Laid room 0 (listing (data_of t)) after m → write_says (Written m) after ≡ write_call t room
+pub said-whole : (t : List ℕ) (room after : Bytes) (n m : ℕ) → table_fits t ≡ true → n ≡ length (listing (data_of t)) → n ≤ length room → Laid room 0 (listing (data_of t)) after m → write_says (Ok m) after ≡ write_call t room
 unfolding write_call
 said-whole t room after n m h e l k =
     let to : m ≡ length (listing (data_of t)) = omega (arith, k.to) in

@@ -1,6 +1,6 @@
 -- The two calls: which number, which fields and which memory at the end, for any text, table and room.
 -- In words: docs/MANUAL.md, 10.
-use Rattle.std.specs.Prelude.{◌≡◌, true, List, ℕ, leb, length}
+use Rattle.std.specs.Prelude.{◌≡◌, true, List, ℕ, leb, length, Result, Ok, Err}
 use Rattle.plain.specs.Choice.{select}
 use Rattle.plain.specs.Buffers.{at_start}
 use Rattle.plain.specs.Told.{Told, refused_at}
@@ -9,10 +9,10 @@ use Rattle.packing.specs.Data.{Data, data_fits}
 use Rattle.packing.specs.Packed.{packed, data_of}
 use Rattle.printing.specs.Listing.{Bytes, listing}
 use Rattle.printing.specs.FirstBad.{FirstBad}
-use Rattle.listing.specs.declared.reading.ReadAnswer.{ReadAnswer}
-use Rattle.listing.specs.declared.reading.ReadAnswer.TheVariants as reading
-use Rattle.listing.specs.declared.writing.WriteAnswer.{WriteAnswer}
-use Rattle.listing.specs.declared.writing.WriteAnswer.TheVariants as writing
+use Rattle.listing.specs.declared.reading.ReadError.{ReadError}
+use Rattle.listing.specs.declared.reading.ReadError.TheVariants as reading
+use Rattle.listing.specs.declared.writing.WriteError.{WriteError}
+use Rattle.listing.specs.declared.writing.WriteError.TheVariants as writing
 
 -- 0: the result at the room's start, the rest unchanged; words is its length
 abbrev pub filled : ℕ → List ℕ → Told
@@ -33,12 +33,12 @@ unfoldable pub write_call : List ℕ → Bytes → Told
 write_call t room = select (table_fits t) (wrote (listing (data_of t)) room) (refused_at 2 0 room)
 
 -- each case's number and fields, with the room as it is left
-abbrev pub read_says : ReadAnswer → List ℕ → Told
-read_says (reading.Read n) b = filled n b
-read_says (reading.BadText k) b = refused_at 15 k b
-read_says reading.NoRoom b = refused_at 16 0 b
+abbrev pub read_says : Result ℕ ReadError → List ℕ → Told
+read_says (Ok n) b = filled n b
+read_says (Err (reading.BadText k)) b = refused_at 15 k b
+read_says (Err reading.NoRoom) b = refused_at 16 0 b
 
-abbrev pub write_says : WriteAnswer → Bytes → Told
-write_says (writing.Written n) b = filled n b
-write_says writing.BadTable b = refused_at 2 0 b
-write_says writing.NoRoom b = refused_at 16 0 b
+abbrev pub write_says : Result ℕ WriteError → Bytes → Told
+write_says (Ok n) b = filled n b
+write_says (Err writing.BadTable) b = refused_at 2 0 b
+write_says (Err writing.NoRoom) b = refused_at 16 0 b

@@ -1,5 +1,5 @@
 -- What the judging pass finds, line by line.
-use Rattle.std.specs.Prelude.{◌≡◌, ◌&&◌, List, [], ℕ, ◌+◌, ◌≤◌, leb, ltb, length, Option, None, Some}
+use Rattle.std.specs.Prelude.{◌≡◌, ◌&&◌, List, [], ℕ, ◌+◌, ◌≤◌, leb, ltb, length, Option, None, Some, Result, Ok, Err}
 use Rattle.std.proofs.Math.Seq.{slice}
 use Rattle.plain.specs.Choice.{select}
 use Rattle.plain.specs.Lists.{count, every}
@@ -8,10 +8,8 @@ use Rattle.defs.specs.declared.ruledef.Part.{Part}
 use Rattle.packing.specs.Data.{Data, is_part_of, last_of, parts_of}
 use Rattle.printing.specs.Listing.{Bytes}
 use Rattle.printing.specs.Reading.{Reached, pieces, Read, good, bad}
-use Rattle.listing.specs.declared.judging.Judged.{Judged}
-use Rattle.listing.specs.declared.judging.Judged.TheVariants.{Good, BadAt}
-use Rattle.listing.specs.declared.judging.Line.{Line}
-use Rattle.listing.specs.declared.judging.Line.TheVariants.{Fits, Bad}
+use Rattle.listing.specs.declared.judging.Sizes.{Sizes}
+use Rattle.listing.specs.declared.judging.BadLine.{BadLine}
 
 -- the fields after a tab, up to a line's end
 unfoldable pub fields_at : Bytes → ℕ → ℕ → List Bytes
@@ -37,11 +35,11 @@ pub record Countable (s r p l : ℕ) : Type 0 where
   pub counted : Counted so_far s r p l
 
 -- what the answer on one more line says of the data with it
-abbrev pub LineSays : Option Data → Line → Type 0
-LineSays o (Fits z) = (e : Data) × (o ≡ Some e) × Counted e z.sets z.rules z.parts z.last
-LineSays o Bad = o ≡ None
+abbrev pub LineSays : Option Data → Option Sizes → Type 0
+LineSays o (Some z) = (e : Data) × (o ≡ Some e) × Counted e z.sets z.rules z.parts z.last
+LineSays o None = o ≡ None
 
 -- what the answer on a whole text says of its reading; no listing has more than 544 lines
-abbrev pub Judges : Read → Judged → Type 0
-Judges x (Good z) = (e : Data) × (x ≡ good e) × Counted e z.sets z.rules z.parts z.last
-Judges x (BadAt k) = (x ≡ bad k) × (k ≤ 544)
+abbrev pub Judges : Read → Result Sizes BadLine → Type 0
+Judges x (Ok z) = (e : Data) × (x ≡ good e) × Counted e z.sets z.rules z.parts z.last
+Judges x (Err b) = (x ≡ bad b.line) × (b.line ≤ 544)

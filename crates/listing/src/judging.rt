@@ -22,18 +22,10 @@ pub struct Sizes {
     pub last: usize,
 }
 
-// The whole text: what there is, or its first bad line.
+// The first bad line of a text, counted from 0.
 #[derive(Clone, Copy)]
-pub enum Judged {
-    Good(Sizes),
-    BadAt(usize),
-}
-
-// One more line: what there is with it, or it is bad.
-#[derive(Clone, Copy)]
-pub enum Line {
-    Fits(Sizes),
-    Bad,
+pub struct BadLine {
+    pub line: u32,
 }
 
 // How many parts a rule's fields say, from a tab to the line's end; `TOO_MANY` if there are more than 64, or
@@ -69,18 +61,18 @@ fn judge_parts(text: &[u8], at: usize, end: usize, sets: usize) -> usize
     count
 }
 
-// A ruleset's line, by the field after its word.
-fn judge_top(text: &[u8], at: usize, end: usize, sizes: Sizes) -> Line
+// A ruleset's line, by the field after its word: what there is with it, or it is bad.
+fn judge_top(text: &[u8], at: usize, end: usize, sizes: Sizes) -> Option<Sizes>
     requires at_le_end { at ≤ end }
     requires end_in_bounds { end ≤ length text.now }
     requires countable { Countable sizes.sets sizes.rules sizes.parts sizes.last }
     ensures says { (d : Data) → Counted d sizes.sets sizes.rules sizes.parts sizes.last → LineSays (add_top d d.rules (top_in (pieces 9 (slice at end text.now)))) result }
 {
     if sizes.rules > 0 {
-        return Line::Bad;
+        return None;
     }
     if sizes.sets == ruledef::MOST_RULESETS {
-        return Line::Bad;
+        return None;
     }
     let next = Sizes {
         sets: sizes.sets + 1,
@@ -89,16 +81,16 @@ fn judge_top(text: &[u8], at: usize, end: usize, sizes: Sizes) -> Line
         last: 0,
     };
     if is_word(text, at, end, &spelling::TOP) {
-        return Line::Fits(next);
+        return Some(next);
     }
     if is_word(text, at, end, &spelling::NESTED) {
-        return Line::Fits(next);
+        return Some(next);
     }
-    Line::Bad
+    None
 }
 
 // A rule's line, by the fields after its word.
-fn judge_rule(text: &[u8], at: usize, end: usize, sizes: Sizes) -> Line
+fn judge_rule(text: &[u8], at: usize, end: usize, sizes: Sizes) -> Option<Sizes>
     requires at_le_end { at ≤ end }
     requires end_in_bounds { end ≤ length text.now }
     requires countable { Countable sizes.sets sizes.rules sizes.parts sizes.last }
@@ -107,22 +99,22 @@ fn judge_rule(text: &[u8], at: usize, end: usize, sizes: Sizes) -> Line
     let tab = find(text, at, end, spelling::TAB);
     let set = number(text, at, tab);
     if set >= sizes.sets {
-        return Line::Bad;
+        return None;
     }
     if set < sizes.last {
-        return Line::Bad;
+        return None;
     }
     if sizes.rules == ruledef::MOST_RULES {
-        return Line::Bad;
+        return None;
     }
     let count = judge_parts(text, tab, end, sizes.sets);
     if count > ruledef::MOST_PARTS_A_RULE {
-        return Line::Bad;
+        return None;
     }
     if sizes.parts + count > ruledef::MOST_PARTS {
-        return Line::Bad;
+        return None;
     }
-    Line::Fits(Sizes {
+    Some(Sizes {
         sets: sizes.sets,
         rules: sizes.rules + 1,
         parts: sizes.parts + count,
@@ -131,7 +123,7 @@ fn judge_rule(text: &[u8], at: usize, end: usize, sizes: Sizes) -> Line
 }
 
 // One more line, by its first field: a ruleset's or a rule's.
-fn judge_line(text: &[u8], at: usize, end: usize, sizes: Sizes) -> Line
+fn judge_line(text: &[u8], at: usize, end: usize, sizes: Sizes) -> Option<Sizes>
     requires at_le_end { at ≤ end }
     requires end_in_bounds { end ≤ length text.now }
     requires countable { Countable sizes.sets sizes.rules sizes.parts sizes.last }
@@ -139,7 +131,7 @@ fn judge_line(text: &[u8], at: usize, end: usize, sizes: Sizes) -> Line
 {
     let tab = find(text, at, end, spelling::TAB);
     if tab == end {
-        return Line::Bad;
+        return None;
     }
     if is_word(text, at, tab, &spelling::RULESET) {
         return judge_top(text, tab + 1, end, sizes);
@@ -147,20 +139,21 @@ fn judge_line(text: &[u8], at: usize, end: usize, sizes: Sizes) -> Line
     if is_word(text, at, tab, &spelling::RULE) {
         return judge_rule(text, tab + 1, end, sizes);
     }
-    Line::Bad
+    None
 }
 
-// The number of the line after those that have these sizes: each of them is a ruleset or a rule.
-fn next_line(sizes: Sizes) -> usize
+// The line after those that have these sizes is bad: each of them is a ruleset or a rule.
+fn next_line(sizes: Sizes) -> BadLine
     requires sets_bound { sizes.sets ≤ 32 }
     requires rules_bound { sizes.rules ≤ 512 }
-    ensures { result ≡ sizes.sets + sizes.rules }
+    ensures { result.line ≡ sizes.sets + sizes.rules }
 {
-    sizes.sets + sizes.rules
+    let line = sizes.sets + sizes.rules;
+    BadLine { line: line as u32 }
 }
 
 // The whole text, line by line: the first that is bad, or how much there is.
-pub fn judge(text: &[u8]) -> Judged
+pub fn judge(text: &[u8]) -> Result<Sizes, BadLine>
     ensures says { Judges (read text.now) result }
 {
     let mut sizes = Sizes {
@@ -173,17 +166,16 @@ pub fn judge(text: &[u8]) -> Judged
     while at < text.len() {
         let end = find(text, at, text.len(), spelling::END);
         if end == text.len() {
-            return Judged::BadAt(next_line(sizes));
+            return Err(next_line(sizes));
         }
-        let judged = judge_line(text, at, end, sizes);
-        let Line::Fits(next) = judged else {
-            return Judged::BadAt(next_line(sizes));
+        let Some(next) = judge_line(text, at, end, sizes) else {
+            return Err(next_line(sizes));
         };
         sizes = next;
         at = end + 1;
     }
     if sizes.sets == 0 {
-        return Judged::BadAt(next_line(sizes));
+        return Err(next_line(sizes));
     }
-    Judged::Good(sizes)
+    Ok(sizes)
 }

@@ -11,22 +11,29 @@ ghost use Rattle.fields.specs.Said.{said_word};
 ghost use Rattle.fields.specs.Laid.{Laid};
 ghost use Rattle.listing.specs.Judging.{fields_at};
 ghost use Rattle.listing.specs.Packing.{Listed, listed_in, LinesFrom, words_for, with_rules};
+ghost use Rattle.listing.specs.declared.reading.ReadError.TheVariants.{BadText};
 ghost use Rattle.listing.specs.Calls.{ReadCall, read_says};
 
-use crate::judging::{Judged, Sizes, judge};
+use crate::judging::{BadLine, Sizes, judge};
 use defs::ruledef;
 use fields::reading::{find, is_word, number, part_word};
 use fields::spelling;
 
-// What reading answers. `read_says` gives each case's number and fields.
+// Why a text is not read. `read_says` gives each case's number and fields.
 #[derive(Clone, Copy)]
-pub enum ReadAnswer {
-    // 0: how many words were written at the room's start.
-    Read { words: u32 },
+pub enum ReadError {
     // 15: the first bad line, counted from 0.
     BadText { line: u32 },
     // 16: the words are more than their room.
     NoRoom,
+}
+
+impl From<BadLine> for ReadError {
+    ghost from_gives = { λ bad error. error ≡ BadText bad.line };
+
+    fn from(bad: BadLine) -> ReadError {
+        ReadError::BadText { line: bad.line }
+    }
 }
 
 // A ruleset's flag, by its field.
@@ -139,22 +146,15 @@ fn lay_table(text: &[u8], sizes: Sizes, table: &mut [u16])
     lay_rules(text, from, sizes, table);
 }
 
-// The text's rulesets and rules as a packed table, at the room's start.
-pub fn read_table(text: &[u8], table: &mut [u16]) -> ReadAnswer
+// The text's rulesets and rules as a packed table, at the room's start, and how many words it takes there.
+pub fn read_table(text: &[u8], table: &mut [u16]) -> Result<u32, ReadError>
     ensures answers { ReadCall text.now table.old (read_says result table.new) }
 {
-    let judged = judge(text);
-    match judged {
-        Judged::BadAt(line) => ReadAnswer::BadText { line: line as u32 },
-        Judged::Good(sizes) => {
-            let words = ruledef::HEAD + sizes.sets + ruledef::FIELDS * sizes.rules + sizes.parts;
-            if table.len() < words {
-                return ReadAnswer::NoRoom;
-            }
-            lay_table(text, sizes, table);
-            ReadAnswer::Read {
-                words: words as u32,
-            }
-        }
+    let sizes = judge(text)?;
+    let words = ruledef::HEAD + sizes.sets + ruledef::FIELDS * sizes.rules + sizes.parts;
+    if table.len() < words {
+        return Err(ReadError::NoRoom);
     }
+    lay_table(text, sizes, table);
+    Ok(words as u32)
 }

@@ -14,11 +14,9 @@ use defs::ruledef;
 use fields::spelling;
 use fields::writing::{put, put_number, put_part, put_word};
 
-// What writing answers. `write_says` gives each case's number and fields.
+// Why a table is not written. `write_says` gives each case's number and fields.
 #[derive(Clone, Copy)]
-pub enum WriteAnswer {
-    // 0: how many bytes were written at the room's start.
-    Written { bytes: u32 },
+pub enum WriteError {
     // 2
     BadTable,
     // 16: the listing is longer than its room.
@@ -129,18 +127,16 @@ fn measure(table: &[u16]) -> usize
     put_table(table, &mut byte)
 }
 
-// The table's rulesets and rules as text, at the room's start.
-pub fn write_table(table: &[u16], text: &mut [u8]) -> WriteAnswer
+// The table's rulesets and rules as text, at the room's start, and how many bytes it takes there.
+pub fn write_table(table: &[u16], text: &mut [u8]) -> Result<u32, WriteError>
     ensures answers { write_says result text.new ≡ write_call table.now text.old }
 {
     if !acceptance::check_table(table) {
-        return WriteAnswer::BadTable;
+        return Err(WriteError::BadTable);
     }
     if text.len() < measure(table) {
-        return WriteAnswer::NoRoom;
+        return Err(WriteError::NoRoom);
     }
     let bytes = put_table(table, text);
-    WriteAnswer::Written {
-        bytes: bytes as u32,
-    }
+    Ok(bytes as u32)
 }

@@ -1,6 +1,6 @@
 // What a call returned, on the output, with the room as it is left.
-use listing::reading::ReadAnswer;
-use listing::writing::WriteAnswer;
+use listing::reading::ReadError;
+use listing::writing::WriteError;
 use sample::{put, say};
 use std::io;
 use std::io::Write;
@@ -51,21 +51,29 @@ fn put_bytes<W: Write>(out: &mut W, room: &[u8]) -> io::Result<()> {
     Ok(())
 }
 
-pub fn tell_read<W: Write>(out: &mut W, answer: ReadAnswer, room: &[u16]) -> io::Result<()> {
+pub fn tell_read<W: Write>(
+    out: &mut W,
+    answer: Result<u32, ReadError>,
+    room: &[u16],
+) -> io::Result<()> {
     match answer {
-        ReadAnswer::Read { words } => put_fields(out, 0, words, 0)?,
-        ReadAnswer::BadText { line } => put_fields(out, 15, 0, line)?,
-        ReadAnswer::NoRoom => put_fields(out, 16, 0, 0)?,
+        Ok(words) => put_fields(out, 0, words, 0)?,
+        Err(ReadError::BadText { line }) => put_fields(out, 15, 0, line)?,
+        Err(ReadError::NoRoom) => put_fields(out, 16, 0, 0)?,
     }
     put_words(out, room)?;
     say(out, b"\n")
 }
 
-pub fn tell_written<W: Write>(out: &mut W, answer: WriteAnswer, room: &[u8]) -> io::Result<()> {
+pub fn tell_written<W: Write>(
+    out: &mut W,
+    answer: Result<u32, WriteError>,
+    room: &[u8],
+) -> io::Result<()> {
     match answer {
-        WriteAnswer::Written { bytes } => put_fields(out, 0, bytes, 0)?,
-        WriteAnswer::BadTable => put_fields(out, 2, 0, 0)?,
-        WriteAnswer::NoRoom => put_fields(out, 16, 0, 0)?,
+        Ok(bytes) => put_fields(out, 0, bytes, 0)?,
+        Err(WriteError::BadTable) => put_fields(out, 2, 0, 0)?,
+        Err(WriteError::NoRoom) => put_fields(out, 16, 0, 0)?,
     }
     if !room.is_empty() {
         say(out, b" ")?;

@@ -21,10 +21,10 @@ pub next_line-requires-in_default-clause-rules_bound : goal.next_line-requires-i
 next_line-requires-in_default-clause-rules_bound c = let z = few-sizes c.args.text.now c.loop-at.at _ _ _ _ c.loop-at.invariant in z.1
 
 pub returns-in_default : goal.returns-in_default
-returns-in_default c = record { says = bad-at c.next_line-in_default.ensures (from-bad c.args.text.now c.loop-at.at _ _ _ _ c.loop-at.invariant c.find-end.result c.find-end.ensures.answers (omega (arith, c.find-end.ensures.answers.to)) (says-bad _ c.judge_line-judged.result c.in_default.is (c.judge_line-judged.ensures.says c.loop-at.invariant.so_far c.loop-at.invariant.counted))) }
+returns-in_default c = record { says = bad-at c.next_line-in_default.ensures (from-bad c.args.text.now c.loop-at.at _ _ _ _ c.loop-at.invariant c.find-end.result c.find-end.ensures.answers (omega (arith, c.find-end.ensures.answers.to)) (says-bad _ c.judge_line.result c.in_default.is (c.judge_line.ensures.says c.loop-at.invariant.so_far c.loop-at.invariant.counted))) }
 
 pub loop-at-preserved : goal.loop-at-preserved
-loop-at-preserved c = from_next c.args.text.now c.loop-at.at _ _ _ _ c.loop-at.invariant c.find-end.result c.find-end.ensures.answers (omega (arith, c.find-end.ensures.answers.to)) _ _ _ _ (says-fits _ c.judge_line-judged.result _ c.in-Fits.is (c.judge_line-judged.ensures.says c.loop-at.invariant.so_far c.loop-at.invariant.counted))
+loop-at-preserved c = from_next c.args.text.now c.loop-at.at _ _ _ _ c.loop-at.invariant c.find-end.result c.find-end.ensures.answers (omega (arith, c.find-end.ensures.answers.to)) _ _ _ _ (says-fits _ c.judge_line.result _ c.in-Some.is (c.judge_line.ensures.says c.loop-at.invariant.so_far c.loop-at.invariant.counted))
 
 pub next_line-requires-then-sizes-eq0-clause-rules_bound : goal.next_line-requires-then-sizes-eq0-clause-rules_bound
 next_line-requires-then-sizes-eq0-clause-rules_bound c = let z = few-sizes c.args.text.now c.loop-at.at _ _ _ _ c.loop-at.invariant in z.1
