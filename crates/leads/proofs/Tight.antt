@@ -7,7 +7,7 @@ use mathlib.Core.List.{List}
 use Prim.Native.Nat.{ℕ}
 use lib.ListN.{get_or}
 use Rattle.plain.proofs.Answers.{one_answer}
-use Rattle.leads.specs.declared.Ahead.{Ahead}
+use Rattle.std.specs.Prelude.{Option}
 use Rattle.leads.specs.Leads.{Led}
 use Rattle.leads.proofs.prefix_key.Reads as prefix-key
 use Rattle.leads.proofs.look_ahead.Reads as look-ahead
@@ -18,10 +18,10 @@ use Rattle.leads.proofs.lead_nested.Reads as lead-nested
 pub prefix_key-tight : (κs a : _) (r s : ℕ) (x y : _) → prefix-key.Post κs a r x → prefix-key.Post κs a s y → r ≡ s
 prefix_key-tight κs a r s x y p q = one_answer p.0 q.0
 
-pub look_ahead-tight : (κs a : _) (r s : Ahead) (x y : _) → look-ahead.Post κs a r x → look-ahead.Post κs a s y → r ≡ s
+pub look_ahead-tight : (κs a : _) (r s : Option ℕ) (x y : _) → look-ahead.Post κs a r x → look-ahead.Post κs a s y → r ≡ s
 look_ahead-tight κs a r s x y = one_answer
 
-pub failing_visits-tight : (κs a : _) (r s : ℕ) (x y : _) → failing-visits.Post κs a r x → failing-visits.Post κs a s y → r ≡ s
+pub failing_visits-tight : (κs a : _) (r s : Option ℕ) (x y : _) → failing-visits.Post κs a r x → failing-visits.Post κs a s y → r ≡ s
 failing_visits-tight κs a r s x y = one_answer
 
 pub led-same : {t : List ℕ} {Of : ℕ → Type 0} {before a b : List ℕ} → Led t Of before a → Led t Of before b → (i : ℕ) → get_or a i 0 ≡ get_or b i 0

@@ -5,7 +5,11 @@ use mathlib.Core.Bool.{Bool, true, false}
 use mathlib.Core.List.{List, [], ◌∷◌, map}
 use Prim.Native.Nat.{ℕ, zero, suc, ◌<◌}
 use native.Mathlib.Omega.{arith}
+use lib.Dec.{eqb}
 use lib.ListN.{get_or, take, drop}
+use borrow.Author.Tests.{ne_eqb}
+use Rattle.std.specs.Prelude.{Option, None, Some}
+use Rattle.plain.proofs.Options.{some-ne-none, some_inj}
 use Rattle.plain.specs.Choice.{select}
 use Rattle.plain.specs.Lists.{keep_if}
 use Rattle.token.specs.Token.{is_solid, lowered}
@@ -14,8 +18,7 @@ use Rattle.defs.specs.Table.{table_fits, records_in, rule_parts}
 use Rattle.ruledef_map.specs.RuledefMap.{rule_prefix}
 use Rattle.sorting.proofs.Insertions.{every-none}
 use Rattle.readings.specs.Fail.{ahead, failing}
-use Rattle.leads.specs.declared.Ahead.{Ahead}
-use Rattle.leads.specs.Leads.{key_of, key_at, failing_by, ahead_of, failing_of, LeadOf}
+use Rattle.leads.specs.Leads.{key_of, key_at, failing_by, ahead_of, some_visits, failing_of, LeadOf}
 use Rattle.leads.proofs.Keys.{is_byte}
 use Rattle.leads.proofs.Bytes.{rule-bytes, rule-short}
 use Rattle.leads.proofs.Words.{failing-by, failing-none}
@@ -52,16 +55,19 @@ small-ahead : (line : List ℕ) (l c : ℕ) → ((i : ℕ) → get_or line i 0 <
 unfolding ahead Small
 small-ahead line l c s = small-take 4 (map lowered (keep_if is_solid (drop c (take l line)))) (small-kept (drop c (take l line)) (small-drop c (take l line) (small-take l line s)))
 
--- ---- what is asked for is known
-
-module _ (line : List ℕ) (l c : ℕ) where
-  pub ahead-known : {wanted : Bool} {key : ℕ} → wanted ≡ true → key ≡ key_of (ahead line l c) → ◌≡◌ {A = Ahead} (record { known = true; key = key }) (ahead_of wanted line l c)
-  ahead-known e is = rw (e, is)
-
-  pub ahead-unknown : {wanted : Bool} → wanted ≡ false → ◌≡◌ {A = Ahead} (record { known = false; key = 0 }) (ahead_of wanted line l c)
-  ahead-unknown e = rw e
-
 -- ---- so a lead tells
+
+-- visits that are told are some
+visits-some : {m n : ℕ} → Some m ≡ some_visits n → (m ≡ n) × (0 < m)
+visits-some {m = m} {n = zero} e = absurd (some-ne-none m e)
+visits-some {m = m} {n = suc n} e =
+    let i : eqb (suc n) 0 ≡ false = ne_eqb (suc n) 0 (λ k. omega arith) in
+    let k : m ≡ suc n = some_inj (rw i at e) in (k, omega arith)
+
+pub told-some : (lead : ℕ) {m : ℕ} (a : Option ℕ) → Some m ≡ failing_of lead a → 0 < m
+unfolding failing_of
+told-some lead {m} None e = absurd (some-ne-none m e)
+told-some lead {m} (Some line) e = (visits-some e).1
 
 module _ (t line : List ℕ) (ok : table_fits t ≡ true) (bytes : (i : ℕ) → get_or line i 0 < 256) (l c i : ℕ) (known : i < records_in t) where
   -- of a line's number
@@ -77,7 +83,8 @@ module _ (t line : List ℕ) (ok : table_fits t ≡ true) (bytes : (i : ℕ) →
       is ∙ ap (λ (w : ℕ). failing_by w (key_of (ahead line l c))) this
       ∙ failing-by (rule_prefix (rule_parts t i)) (ahead line l c) (rule-bytes t ok i known) (small-ahead line l c bytes) (rule-short t i)
 
-  pub lead-tells : {lead m : ℕ} {a : Ahead} (wanted : Bool) → LeadOf t i lead → a ≡ ahead_of wanted line l c → m ≡ failing_of lead a → 0 < m → m ≡ failing (rule_prefix (rule_parts t i)) (ahead line l c)
+  pub lead-tells : {lead m : ℕ} {a : Option ℕ} (wanted : Bool) → LeadOf t i lead → a ≡ ahead_of wanted line l c → Some m ≡ failing_of lead a → m ≡ failing (rule_prefix (rule_parts t i)) (ahead line l c)
   unfolding failing_of
-  lead-tells {lead} {m} true led a-is is some = key-tells led (is ∙ ap (failing_of lead) a-is) some
-  lead-tells {lead} {m} false led a-is is some = let none : m ≡ 0 = is ∙ ap (failing_of lead) a-is in absurd (omega arith)
+  lead-tells {lead} {m} true led a-is is =
+      let (k, some) = visits-some (is ∙ ap (failing_of lead) a-is) in key-tells led k some
+  lead-tells {lead} {m} false led a-is is = absurd (some-ne-none m (is ∙ ap (failing_of lead) a-is))

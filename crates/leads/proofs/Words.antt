@@ -8,13 +8,13 @@ use native.Mathlib.Omega.{arith}
 use lib.Dec.{eqb, ltb}
 use lib.ListN.{length, get_or, drop}
 use borrow.Author.Tests.{eq-eqb, ne_eqb, eqb-true, eqb-false, lt-ltb, le-ltb, ltb-true, ltb-false}
+use Rattle.std.specs.Prelude.{Option, None, Some}
 use Rattle.plain.specs.Choice.{select}
 use Rattle.plain.specs.Lists.{every}
 use Rattle.plain.proofs.Tests.{tested}
 use Rattle.sorting.proofs.Insertions.{every-head, every-tail}
 use Rattle.readings.specs.Fail.{agreed, failing}
-use Rattle.leads.specs.declared.Ahead.{Ahead}
-use Rattle.leads.specs.Leads.{key_of, failing_by, failing_of}
+use Rattle.leads.specs.Leads.{key_of, failing_by, some_visits, failing_of}
 use Rattle.leads.proofs.Keys.{is_byte, byte-some, small_at}
 
 -- ---- how a rule fails, byte by byte
@@ -207,38 +207,35 @@ module _ (q p : List ℕ) (bytes : every is_byte q ≡ true) (small-p : (j : ℕ
 
 -- ---- as the code tests
 
-module _ (key v : ℕ) where
-  pub ended-yes : key % 256 ≡ 0 → 0 ≡ select (eqb (key % 256) 0) 0 v
-  ended-yes e = rw (eq-eqb (key % 256) 0 e)
+-- no visits are none
+none-ended : (b : Bool) (v : ℕ) → 0 < v → some_visits (select b 0 v) ≡ select b None (Some v)
+none-ended true v h = refl
+none-ended false v h = rw (ne_eqb v 0 (λ e. omega arith))
 
-  pub ended-no : (key % 256 ≡ 0 → ⊥) → v ≡ select (eqb (key % 256) 0) 0 v
-  ended-no d = rw (ne_eqb (key % 256) 0 d)
+pub nothing_known : (rule : ℕ) {a : Option ℕ} → a ≡ None → None ≡ failing_of rule a
+unfolding failing_of
+nothing_known rule e = rw e
 
-module _ (rule : ℕ) (x : Ahead) {r : ℕ} where
-  pub nothing_known : x.known ≡ false → r ≡ 0 → r ≡ failing_of rule x
-  unfolding failing_of
-  nothing_known e z = rw e z
-
-module _ (rule : ℕ) (x : Ahead) {r : ℕ} (told : x.known ≡ true) where
-  pub differ-first : (rule / 16777216 ≡ x.key / 16777216 → ⊥) → r ≡ select (eqb (rule / 16777216 % 256) 0) 0 1 → r ≡ failing_of rule x
+module _ (rule line : ℕ) {a : Option ℕ} (is : a ≡ Some line) {r : Option ℕ} where
+  pub differ-first : (rule / 16777216 ≡ line / 16777216 → ⊥) → r ≡ select (eqb (rule / 16777216 % 256) 0) None (Some 1) → r ≡ failing_of rule a
   unfolding failing_of failing_by
-  differ-first d e = rw (told, ne_eqb (rule / 16777216) (x.key / 16777216) d) e
+  differ-first d e = rw (is, ne_eqb (rule / 16777216) (line / 16777216) d) (e ∙ sym (none-ended _ 1 (omega arith)))
 
-  module _ (a : rule / 16777216 ≡ x.key / 16777216) where
-    pub differ-second : (rule / 65536 ≡ x.key / 65536 → ⊥) → r ≡ select (eqb (rule / 65536 % 256) 0) 0 2 → r ≡ failing_of rule x
+  module _ (x : rule / 16777216 ≡ line / 16777216) where
+    pub differ-second : (rule / 65536 ≡ line / 65536 → ⊥) → r ≡ select (eqb (rule / 65536 % 256) 0) None (Some 2) → r ≡ failing_of rule a
     unfolding failing_of failing_by
-    differ-second d e = rw (told, eq-eqb (rule / 16777216) (x.key / 16777216) a, ne_eqb (rule / 65536) (x.key / 65536) d) e
+    differ-second d e = rw (is, eq-eqb (rule / 16777216) (line / 16777216) x, ne_eqb (rule / 65536) (line / 65536) d) (e ∙ sym (none-ended _ 2 (omega arith)))
 
-    module _ (b : rule / 65536 ≡ x.key / 65536) where
-      pub differ-third : (rule / 256 ≡ x.key / 256 → ⊥) → r ≡ select (eqb (rule / 256 % 256) 0) 0 3 → r ≡ failing_of rule x
+    module _ (y : rule / 65536 ≡ line / 65536) where
+      pub differ-third : (rule / 256 ≡ line / 256 → ⊥) → r ≡ select (eqb (rule / 256 % 256) 0) None (Some 3) → r ≡ failing_of rule a
       unfolding failing_of failing_by
-      differ-third d e = rw (told, eq-eqb (rule / 16777216) (x.key / 16777216) a, eq-eqb (rule / 65536) (x.key / 65536) b, ne_eqb (rule / 256) (x.key / 256) d) e
+      differ-third d e = rw (is, eq-eqb (rule / 16777216) (line / 16777216) x, eq-eqb (rule / 65536) (line / 65536) y, ne_eqb (rule / 256) (line / 256) d) (e ∙ sym (none-ended _ 3 (omega arith)))
 
-      module _ (c : rule / 256 ≡ x.key / 256) where
-        pub differ-fourth : (rule ≡ x.key → ⊥) → r ≡ select (eqb (rule % 256) 0) 0 4 → r ≡ failing_of rule x
+      module _ (z : rule / 256 ≡ line / 256) where
+        pub differ-fourth : (rule ≡ line → ⊥) → r ≡ select (eqb (rule % 256) 0) None (Some 4) → r ≡ failing_of rule a
         unfolding failing_of failing_by
-        differ-fourth d e = rw (told, eq-eqb (rule / 16777216) (x.key / 16777216) a, eq-eqb (rule / 65536) (x.key / 65536) b, eq-eqb (rule / 256) (x.key / 256) c, ne_eqb rule x.key d) e
+        differ-fourth d e = rw (is, eq-eqb (rule / 16777216) (line / 16777216) x, eq-eqb (rule / 65536) (line / 65536) y, eq-eqb (rule / 256) (line / 256) z, ne_eqb rule line d) (e ∙ sym (none-ended _ 4 (omega arith)))
 
-        pub differ-nowhere : rule ≡ x.key → r ≡ 0 → r ≡ failing_of rule x
+        pub differ-nowhere : rule ≡ line → r ≡ None → r ≡ failing_of rule a
         unfolding failing_of failing_by
-        differ-nowhere d e = rw (told, eq-eqb (rule / 16777216) (x.key / 16777216) a, eq-eqb (rule / 65536) (x.key / 65536) b, eq-eqb (rule / 256) (x.key / 256) c, eq-eqb rule x.key d) e
+        differ-nowhere d e = rw (is, eq-eqb (rule / 16777216) (line / 16777216) x, eq-eqb (rule / 65536) (line / 65536) y, eq-eqb (rule / 256) (line / 256) z, eq-eqb rule line d) e

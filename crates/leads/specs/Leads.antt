@@ -1,12 +1,11 @@
 -- Prefixes as numbers, so that a rule that fails in its leading exact parts is told by comparing two of them.
-use Rattle.std.specs.Prelude.{◌≡◌, Bool, true, false, ◌⊎◌, List, ℕ, ◌+◌, ◌*◌, ◌/◌, ◌%◌, ◌≤◌, ◌<◌, eqb, length, get_or}
+use Rattle.std.specs.Prelude.{◌≡◌, Bool, true, false, ◌⊎◌, List, ℕ, ◌+◌, ◌*◌, ◌/◌, ◌%◌, ◌≤◌, ◌<◌, eqb, length, get_or, Option, None, Some}
 use Rattle.plain.specs.Choice.{select}
 use Rattle.defs.specs.Table.{table_fits, records_in, rule_parts}
 use Rattle.defs.specs.Ruledef.{starts_of, is_top_rule}
 use Rattle.ruledef_map.specs.RuledefMap.{rule_prefix}
 use Rattle.readings.specs.Fail.{ahead}
 use Rattle.places.specs.Places.{Placed}
-use Rattle.leads.specs.declared.Ahead.{Ahead}
 
 -- a prefix as one number: four bytes, the first weighs most, a missing byte is 0
 unfoldable pub key_of : List ℕ → ℕ
@@ -32,12 +31,16 @@ failing_by rule line =
     (unless_ended (rule / 65536) 2))
     (unless_ended (rule / 16777216) 1)
 
--- what the line has ahead, if it is asked for; and the visits by that
-abbrev pub ahead_of : Bool → List ℕ → ℕ → ℕ → Ahead
-ahead_of wanted line l c = record { known = wanted; key = select wanted (key_of (ahead line l c)) 0 }
+-- what the line has ahead, if it is asked for; and the visits by that, of a rule that fails
+abbrev pub ahead_of : Bool → List ℕ → ℕ → ℕ → Option ℕ
+ahead_of wanted line l c = select wanted (Some (key_of (ahead line l c))) None
 
-unfoldable pub failing_of : ℕ → Ahead → ℕ
-failing_of rule a = select a.known (failing_by rule a.key) 0
+abbrev pub some_visits : ℕ → Option ℕ
+some_visits n = select (eqb n 0) None (Some n)
+
+unfoldable pub failing_of : ℕ → Option ℕ → Option ℕ
+failing_of rule None = None
+failing_of rule (Some line) = some_visits (failing_by rule line)
 
 -- ---- what is prepared
 

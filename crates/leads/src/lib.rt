@@ -3,7 +3,7 @@
 // Nothing is refused: the table is an accepted one.
 #![tactic(auto)]
 
-ghost use Rattle.std.specs.Prelude.{◌≡◌, true, ◌≤◌, ◌<◌, ◌%◌, eqb, length};
+ghost use Rattle.std.specs.Prelude.{◌≡◌, true, ◌≤◌, ◌<◌, ◌%◌, eqb, length, None, Some};
 ghost use Rattle.plain.specs.Choice.{select};
 ghost use Rattle.defs.specs.Table.{table_fits, records_in, parts_between};
 ghost use Rattle.ruledef_map.specs.RuledefMap.{rule_prefix};
@@ -56,15 +56,7 @@ pub fn prefix_key(table: &[u16], from: usize, to: usize) -> usize
     key
 }
 
-// What the line has ahead of a walker: its first four non-whitespace bytes from the cursor on and below the limit, as a number;
-// known only if it is asked for.
-#[derive(Clone, Copy)]
-pub struct Ahead {
-    pub known: bool,
-    pub key: u32,
-}
-
-// The line's bytes as a number.
+// What the line has ahead of a walker: its first four non-whitespace bytes from the cursor on and below the limit, as a number.
 fn line_key(line: &[u8], places: &[u8; useful::PLACES], walker: Walker) -> u32
     requires lent { Lent line.now places.now }
     requires cursor_le_limit { walker.cursor ≤ walker.limit }
@@ -92,43 +84,40 @@ fn line_key(line: &[u8], places: &[u8; useful::PLACES], walker: Walker) -> u32
 
 // What the line has ahead, if that is wanted: it costs half of what walking a failing rule does, so it pays where several rules
 // are tried.
-pub fn look_ahead(line: &[u8], places: &[u8; useful::PLACES], walker: Walker, wanted: bool) -> Ahead
+pub fn look_ahead(
+    line: &[u8],
+    places: &[u8; useful::PLACES],
+    walker: Walker,
+    wanted: bool,
+) -> Option<u32>
     requires lent { Lent line.now places.now }
     requires cursor_le_limit { walker.cursor ≤ walker.limit }
     requires limit_in_bounds { walker.limit ≤ length line.now }
     ensures answers { result ≡ ahead_of wanted line.now walker.limit walker.cursor }
 {
     if wanted {
-        return Ahead {
-            known: true,
-            key: line_key(line, places, walker),
-        };
-    }
-    Ahead {
-        known: false,
-        key: 0,
+        Some(line_key(line, places, walker))
+    } else {
+        None
     }
 }
 
 // The visits, unless the key's last byte is 0: then the rule's prefix has ended, and the rule does not fail there.
-fn unless_ended(key: u32, visits: usize) -> usize
-    ensures { result ≡ select (eqb (key % 256) 0) 0 visits }
+fn unless_ended(key: u32, visits: usize) -> Option<usize>
+    ensures { result ≡ select (eqb (key % 256) 0) None (Some visits) }
 {
     if key % THIRD == 0 {
-        return 0;
+        return None;
     }
-    visits
+    Some(visits)
 }
 
-// The visits of a rule that fails in its leading exact parts, told by its lead and by what the line has ahead; 0 of one that
+// The visits of a rule that fails in its leading exact parts, told by its lead and by what the line has ahead; none of one that
 // does not, or if nothing is known.
-pub fn failing_visits(rule: u32, ahead: Ahead) -> usize
+pub fn failing_visits(rule: u32, ahead: Option<u32>) -> Option<usize>
     ensures answers { result ≡ failing_of rule ahead }
 {
-    if !ahead.known {
-        return 0;
-    }
-    let line = ahead.key;
+    let line = ahead?;
     if rule / FIRST != line / FIRST {
         return unless_ended(rule / FIRST, 1);
     }
@@ -141,7 +130,7 @@ pub fn failing_visits(rule: u32, ahead: Ahead) -> usize
     if rule != line {
         return unless_ended(rule, 4);
     }
-    0
+    None
 }
 
 // Lays the leads of the listed rules, which are prepared.
