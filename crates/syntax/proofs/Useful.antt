@@ -79,20 +79,16 @@ abbrev pub Skipped : List ℕ → ℕ → ℕ → ℕ → Type 0
 Skipped line from end at = (at ≤ end) × (useful_from line at end ≡ useful_from line from end)
 
 module _ (line : List ℕ) (from end : ℕ) (fits : end ≤ length line) where
-  -- what the loop hands back
-  abbrev Skips : ℕ → Type 0
-  Skips at = (at ≡ useful_from line from end) × (at ≤ end)
-
-  pub skip-stops : (at : ℕ) → Skipped line from end at → at < end → is_whitespace (byte_at line at) ≡ false → Skips at
-  skip-stops at h l f = (sym (useful-here line end fits at l f) ∙ h.1, h.0)
+  pub skip-stops : (at : ℕ) → Skipped line from end at → at < end → is_whitespace (byte_at line at) ≡ false → at ≡ useful_from line from end
+  skip-stops at h l f = sym (useful-here line end fits at l f) ∙ h.1
 
   pub skip_goes_on : (at : ℕ) → Skipped line from end at → at < end → is_whitespace (byte_at line at) ≡ true → Skipped line from end (at + 1)
   skip_goes_on at h l w = (omega arith, useful-later line end fits at l w ∙ h.1)
 
-  pub skip-ends : (at : ℕ) → Skipped line from end at → end ≤ at → Skips at
+  pub skip-ends : (at : ℕ) → Skipped line from end at → end ≤ at → end ≡ useful_from line from end
   skip-ends at h l =
       let last : at ≡ end = omega arith in
-      (last ∙ sym (useful-end line end fits) ∙ ap (λ (n : ℕ). useful_from line n end) (sym last) ∙ h.1, h.0)
+      sym (useful-end line end fits) ∙ ap (λ (n : ℕ). useful_from line n end) (sym last) ∙ h.1
 
 -- a walker within its line
 abbrev pub InLine : List ℕ → Walker → Type 0

@@ -1,11 +1,11 @@
 // The walker: a cursor and a limit over a line that is lent beside it. From `src/syntax/walker.rs`, its cursor part.
 // A walker is a value, and every move hands back the moved one. At every move a limit past the line is first held
 // to the line's end, then a cursor past the limit to the limit, so no move refuses: any cursor, limit, line and byte.
-ghost use Rattle.std.specs.Prelude.{◌≡◌, true, ◌&&◌, ◌||◌, ℕ, ◌+◌, ◌<◌, ◌≤◌, ◌^◌, min, eqb, length};
+ghost use Rattle.std.specs.Prelude.{◌≡◌, Bool, true, ◌&&◌, ◌||◌, ℕ, ◌+◌, ◌<◌, ◌≤◌, ◌^◌, min, eqb, length};
 ghost use Rattle.plain.specs.Choice.{select};
 ghost use Rattle.plain.specs.Lists.{listed};
 ghost use Rattle.syntax.specs.Walker.{held, over, moved_to, limited, useful_from, useful, step_says, expect_char, expect_whitespace};
-ghost use Rattle.token.specs.Token.{is_solid, same_letter, class_of};
+ghost use Rattle.token.specs.Token.{is_whitespace, is_solid, same_letter, class_of};
 ghost use Rattle.syntax.specs.Cut.{is_stray, taken_in, turn_of, fresh, cut_from, cut};
 
 // What marks a class in the table that is laid for a search: more than any class is.
@@ -114,7 +114,7 @@ impl Walker {
         ensures answers { result ≡ useful line.now (held line.now self) }
     {
         let here = self.hold(line);
-        skip_whitespace(line, here.cursor, here.limit)
+        skip_whitespace(line, here.cursor, here.limit, token::is_whitespace)
     }
 
     // The walker past the byte at the useful place, if that stands below the limit and is the wanted one, case ignored.
@@ -123,7 +123,7 @@ impl Walker {
     {
         let here = self.hold(line);
         let limit = here.limit;
-        let at = skip_whitespace(line, here.cursor, limit);
+        let at = skip_whitespace(line, here.cursor, limit, token::is_whitespace);
         if at < limit {
             if token::eq_ignore_ascii_case(line[at], wanted) {
                 return Step::Past(Walker {
@@ -165,43 +165,25 @@ impl Walker {
 pub fn least(a: usize, b: usize) -> usize
     ensures answers { result ≡ min a b }
 {
-    if a <= b { a } else { b }
+    a.min(b)
 }
 
-// The first place from here to the end that holds no whitespace, or the end.
-fn skip_whitespace(line: &[u8], from: usize, end: usize) -> usize
+// The first place from here to the end that holds no whitespace, or the end. The test is the caller's: a search reads the table
+// that it has laid, since `token::is_whitespace` would lay it anew for each byte of whitespace.
+fn skip_whitespace<F: Fn(u8) -> bool>(line: &[u8], from: usize, end: usize, is_blank: F) -> usize
     requires from_le_end { from ≤ end }
     requires end_in_bounds { end ≤ length line.now }
+    requires callable { F.IsAlwaysCallable is_blank }
+    requires tells { (b : ℕ) (r : Bool) → b < 256 → F.post is_blank b r → r ≡ is_whitespace b }
     ensures value { result ≡ useful_from line.now from end }
     ensures upper_bound { result ≤ end }
 {
-    let mut at = from;
-    while at < end {
-        if !token::is_whitespace(line[at]) {
+    for at in from..end {
+        if !is_blank(line[at]) {
             return at;
         }
-        at += 1;
     }
-    at
-}
-
-// The same by the table that a search has laid: `token::is_whitespace` would lay it anew for each byte of whitespace.
-fn skip_by_class(line: &[u8], classes: &[u16; 256], from: usize, end: usize) -> usize
-    requires from_le_end { from ≤ end }
-    requires end_in_bounds { end ≤ length line.now }
-    requires classes_value { classes.now ≡ listed 256 class_of }
-    ensures value { result ≡ useful_from line.now from end }
-    ensures upper_bound { result ≤ end }
-{
-    let mut place = from;
-    while place < end {
-        let b = line[place] as usize;
-        if classes[b] / token::PARTNERS != token::WHITESPACE {
-            return place;
-        }
-        place += 1;
-    }
-    place
+    end
 }
 
 // Marks the lookahead character in the table, in both cases: its partner, and the capital of that if there is one.
@@ -303,22 +285,21 @@ fn find_cut(line: &[u8], from: usize, end: usize, wanted: u8) -> Option<usize>
     ensures { result ≡ cut_from line.now wanted from end fresh }
 {
     let mut classes = token::classes();
-    let mut at = skip_by_class(line, &classes, from, end);
+    let begin = skip_whitespace(line, from, end, |b| {
+        classes[b as usize] / token::PARTNERS == token::WHITESPACE
+    });
     mark(&mut classes, wanted);
     let mut s = Search {
         seen: false,
         parens: 0,
         braces: 0,
     };
-    while at < end {
+    for at in begin..end {
         let b = line[at] as usize;
         match take_in(s, classes[b]) {
             Turn::Cut => return Some(at),
             Turn::Stray => return None,
-            Turn::On(next) => {
-                s = next;
-                at += 1;
-            }
+            Turn::On(next) => s = next,
         }
     }
     None
