@@ -2,7 +2,7 @@
 use mathlib.Core.Path.{◌≡◌, refl, sym, ap, ap₂, ◌∙◌, subst}
 use mathlib.Core.Bool.{true}
 use mathlib.Core.List.{List}
-use Rattle.std.specs.Prelude.{None, Some}
+use Rattle.std.specs.Prelude.{None, Some, Ok, Err}
 use Rattle.plain.proofs.Options.{none-ne-some, some_inj}
 use Prim.Native.Nat.{ℕ, ◌+◌, ◌*◌, ◌≤◌}
 use native.Mathlib.Nat.{mul-le-mul}
@@ -18,7 +18,7 @@ use Rattle.extents.specs.Sheet.{sized}
 use Rattle.expressions.specs.Sheet.{sheet_of, sheet_byte}
 use Rattle.expressions.specs.Call.{FillCall, bad_line, bad_room, filled, FilledFits, fill_says, filled_with}
 use Rattle.expressions.specs.Filling.{Made}
-use Rattle.expressions.specs.declared.Filling.TheVariants.{Filled, BadLine, BadRoom}
+use Rattle.expressions.specs.declared.FillError.TheVariants.{BadLine, BadRoom}
 use Rattle.expressions.proofs.Entries.{sheet-declared, declared-one, sheet-fits}
 use Rattle.expressions.proofs.Filled.{made-sheet}
 
@@ -27,7 +27,7 @@ refusal : {n : ℕ} (A : Type 0) → (n ≡ 0 → ⊥) → n ≡ 0 → A
 refusal A h e = absurd (h e)
 
 module _ (line sheet : List ℕ) where
-  pub line_refused : (p : ℕ) → fault_at line ≡ Some p → FillCall line sheet (fill_says (BadLine p) sheet) × FilledFits line (fill_says (BadLine p) sheet)
+  pub line_refused : (p : ℕ) → fault_at line ≡ Some p → FillCall line sheet (fill_says (Err (BadLine p)) sheet) × FilledFits line (fill_says (Err (BadLine p)) sheet)
   line_refused p e = (bad_line p e refl, refusal _ (λ z. omega arith))
 
   module _ (good : fault_at line ≡ None) where
@@ -37,7 +37,7 @@ module _ (line sheet : List ℕ) where
     pub square : (length line + 1) * (length line + 1) ≤ 121 * 121
     square = let side : length line + 1 ≤ 121 = omega (arith, short) in mul-le-mul side side
 
-    pub room-refused : (length sheet ≡ 2 * ((length line + 1) * (length line + 1)) → ⊥) → FillCall line sheet (fill_says BadRoom sheet) × FilledFits line (fill_says BadRoom sheet)
+    pub room-refused : (length sheet ≡ 2 * ((length line + 1) * (length line + 1)) → ⊥) → FillCall line sheet (fill_says (Err BadRoom) sheet) × FilledFits line (fill_says (Err BadRoom) sheet)
     unfolding sized
     room-refused h = (bad_room good (ne_eqb (length sheet) (2 * ((length line + 1) * (length line + 1))) h) refl, refusal _ (λ z. omega arith))
 
@@ -46,7 +46,7 @@ module _ (line sheet : List ℕ) where
     good-room h = eq-eqb (length sheet) (2 * ((length line + 1) * (length line + 1))) h
 
     pub sheet-filled : (after : List ℕ) (w : ℕ) → w ≡ 2 * ((length line + 1) * (length line + 1)) → sized sheet (length line) ≡ true → Made line after 0
-        → FillCall line sheet (fill_says (Filled w) after) × FilledFits line (fill_says (Filled w) after)
+        → FillCall line sheet (fill_says (Ok w) after) × FilledFits line (fill_says (Ok w) after)
     unfolding sheet_of
     sheet-filled after w q room made =
         let is = made-sheet made in (

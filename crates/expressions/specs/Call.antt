@@ -1,12 +1,12 @@
 -- The call that fills a sheet: which number, which fields and which sheet at the end, for any line and lent sheet.
 -- In words: docs/MANUAL.md, 2.3.
-use Rattle.std.specs.Prelude.{◌≡◌, true, false, List, ℕ, length, None, Some}
+use Rattle.std.specs.Prelude.{◌≡◌, true, false, List, ℕ, length, None, Some, Result, Ok, Err}
 use Rattle.plain.specs.Told.{Told, refused_at}
 use Rattle.line.specs.Line.{fault_at}
 use Rattle.extents.specs.Sheet.{sized, sheet_fits}
 use Rattle.expressions.specs.Sheet.{SheetIs}
-use Rattle.expressions.specs.declared.Filling.{Filling}
-use Rattle.expressions.specs.declared.Filling.TheVariants.{Filled, BadLine, BadRoom}
+use Rattle.expressions.specs.declared.FillError.{FillError}
+use Rattle.expressions.specs.declared.FillError.TheVariants.{BadLine, BadRoom}
 
 -- 0: the sheet is filled; words is its length
 abbrev pub filled_with : ℕ → List ℕ → Told
@@ -23,8 +23,8 @@ pub data FillCall (line sheet : List ℕ) (r : Told) : Type 0 where
 abbrev pub FilledFits : List ℕ → Told → Type 0
 FilledFits line r = r.number ≡ 0 → sheet_fits r.buffer (length line) ≡ true
 
--- each case's number and fields, with the sheet as it is left
-abbrev pub fill_says : Filling → List ℕ → Told
-fill_says (Filled n) b = filled_with n b
-fill_says (BadLine p) b = refused_at 3 p b
-fill_says BadRoom b = refused_at 18 0 b
+-- each answer's number and fields, with the sheet as it is left
+abbrev pub fill_says : Result ℕ FillError → List ℕ → Told
+fill_says (Ok n) b = filled_with n b
+fill_says (Err (BadLine p)) b = refused_at 3 p b
+fill_says (Err BadRoom) b = refused_at 18 0 b

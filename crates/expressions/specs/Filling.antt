@@ -7,8 +7,7 @@ use Rattle.expressions.specs.Grammar.{is_digit, is_alnum, is_closer, Begins, Ter
 use Rattle.expressions.specs.Ends.{token_at, run_end, TermAt}
 use Rattle.expressions.specs.Sheet.{entry_for}
 use Rattle.expressions.specs.declared.Reach.{Reach}
-use Rattle.expressions.specs.declared.TermFound.{TermFound}
-use Rattle.expressions.specs.declared.TermFound.TheVariants.{Ends, Nothing}
+use Rattle.expressions.specs.declared.Span.{Span}
 
 -- of the entries at at + l, those for l from `from` to before `to` are f l, and all others stay
 pub record Lays (before after : List ℕ) (at from to : ℕ) (f : ℕ → ℕ) : Type 0 where
@@ -84,6 +83,6 @@ pub record FreeLaid (line before after : List ℕ) (c whole : ℕ) : Type 0 wher
   pub ends : WholeIs line c (entry_end whole)
 
 -- a term's ends, as the code hands them on
-abbrev pub term_says : TermFound → Option TermAt
-term_says (Ends low top) = Some (record { low = low; top = top })
-term_says Nothing = None
+abbrev pub term_says : Option Span → Option TermAt
+term_says None = None
+term_says (Some span) = Some (record { low = span.low; top = span.top })

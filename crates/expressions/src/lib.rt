@@ -10,13 +10,14 @@ ghost use Rattle.syntax.specs.Walker.{byte_at};
 ghost use Rattle.extents.specs.Sheet.{sized, entry_end};
 ghost use Rattle.extents.specs.declared.Half.TheVariants as Half;
 ghost use Rattle.token.specs.Token.{is_whitespace};
+ghost use Rattle.expressions.specs.declared.FillError.{FillError};
 ghost use Rattle.expressions.specs.Grammar.{is_digit, is_letter, is_alnum, is_operator};
 ghost use Rattle.expressions.specs.Ends.{run_end, up_to, term_at, closed_after};
 ghost use Rattle.expressions.specs.Sheet.{byte_of};
 ghost use Rattle.expressions.specs.Call.{FillCall, FilledFits, fill_says};
 ghost use Rattle.expressions.specs.Filling.{Lays, Reaches, Follows, TermEnds, FreeAsked, FreeLaid, RowLaid, Made, term_says};
 
-use line::LineCheck;
+use line::BadLine;
 
 // An entry's byte that says: no end here.
 const NONE: u8 = 255;
@@ -27,15 +28,21 @@ const HALVES: usize = 2;
 // How many starts the longest line has.
 const STARTS: usize = 121;
 
-// What filling a sheet comes to.
+// Why a sheet is not filled.
 #[derive(Clone, Copy)]
-pub enum Filling {
-    // 0: how many bytes the sheet has.
-    Filled { words: u32 },
+pub enum FillError {
     // 3
     BadLine { place: u32 },
     // 18: the sheet's length is wrong.
     BadRoom,
+}
+
+impl From<BadLine> for FillError {
+    ghost from_gives = { λ bad error. error ≡ FillError.BadLine bad.place };
+
+    fn from(bad: BadLine) -> FillError {
+        FillError::BadLine { place: bad.place }
+    }
 }
 
 // How far the digits, and the letters and digits, that begin at a start reach.
@@ -47,9 +54,9 @@ struct Reach {
 
 // A term's ends: low + 1 to top.
 #[derive(Clone, Copy)]
-enum TermFound {
-    Ends { low: usize, top: usize },
-    Nothing,
+struct Span {
+    low: usize,
+    top: usize,
 }
 
 // ---- bytes and tokens
@@ -116,11 +123,7 @@ fn lay(sheet: &mut [u8], at: usize, from: usize, to: usize, byte: u8)
     requires to_in_bounds { at + to ≤ length sheet.old }
     ensures { Lays sheet.old sheet.new at from to (λ (l : ℕ). byte) }
 {
-    let mut l = from;
-    while l < to {
-        sheet[at + l] = byte;
-        l += 1;
-    }
+    sheet[at + from..at + to].fill(byte);
 }
 
 // Lays each limit itself.
@@ -130,11 +133,9 @@ fn lay_limits(sheet: &mut [u8], at: usize, from: usize, to: usize)
     requires to_bound { to ≤ 121 }
     ensures { Lays sheet.old sheet.new at from to (λ (l : ℕ). l) }
 {
-    let mut l = from;
-    while l < to {
+    for l in from..to {
         let byte = l as u8;
         sheet[at + l] = byte;
-        l += 1;
     }
 }
 
@@ -152,11 +153,8 @@ fn lay_from(sheet: &mut [u8], at: usize, from: usize, to: usize, later: usize, b
     requires to_in_bounds { later + to ≤ length sheet.old }
     ensures { Lays sheet.old sheet.new at from to (λ (l : ℕ). select (eqb (get_or sheet.old (later + l) 0) 255) byte (get_or sheet.old (later + l) 0)) }
 {
-    let mut l = from;
-    while l < to {
-        let there = sheet[later + l];
-        sheet[at + l] = or_byte(there, byte);
-        l += 1;
+    for l in from..to {
+        sheet[at + l] = or_byte(sheet[later + l], byte);
     }
 }
 
@@ -174,26 +172,26 @@ fn lay_ends(sheet: &mut [u8], at: usize, low: usize, top: usize)
 // ---- a start
 
 // The term of an opener, if an expression after it is whole at `inner`.
-fn closed_after(line: &[u8], tokens: &[u8], inner: u8) -> TermFound
+fn closed_after(line: &[u8], tokens: &[u8], inner: u8) -> Option<Span>
     requires { Follows line.now tokens.now (entry_end inner) }
     ensures { term_says result ≡ closed_after line.now (entry_end inner) }
 {
     if inner == NONE {
-        return TermFound::Nothing;
+        return None;
     }
     let end = wide(inner);
     let sign = wide(tokens[end]);
     if byte_at(line, sign) != b')' {
-        return TermFound::Nothing;
+        return None;
     }
-    TermFound::Ends {
+    Some(Span {
         low: sign,
         top: sign + 1,
-    }
+    })
 }
 
 // The term at c, where neither whitespace nor a minus stands.
-fn term_at(line: &[u8], tokens: &[u8], inner: u8, c: usize, reach: Reach) -> TermFound
+fn term_at(line: &[u8], tokens: &[u8], inner: u8, c: usize, reach: Reach) -> Option<Span>
     requires c_in_bounds { c < length line.now }
     requires reaches { Reaches line.now c reach }
     requires follows { Follows line.now tokens.now (entry_end inner) }
@@ -201,37 +199,30 @@ fn term_at(line: &[u8], tokens: &[u8], inner: u8, c: usize, reach: Reach) -> Ter
 {
     let digits = reach.digits;
     if c < digits {
-        return TermFound::Ends {
+        return Some(Span {
             low: c,
             top: digits,
-        };
+        });
     }
     let names = reach.names;
     if c < names {
-        return TermFound::Ends { low: c, top: names };
+        return Some(Span { low: c, top: names });
     }
     if line[c] == b'(' {
         return closed_after(line, tokens, inner);
     }
-    TermFound::Nothing
+    None
 }
 
 // Lays the free row of a term's start, and returns where the expression is whole.
-fn lay_term(
-    line: &[u8],
-    sheet: &mut [u8],
-    wholes: &[u8],
-    tokens: &[u8],
-    c: usize,
-    low: usize,
-    top: usize,
-) -> u8
+fn lay_term(line: &[u8], sheet: &mut [u8], wholes: &[u8], tokens: &[u8], c: usize, term: Span) -> u8
     requires free_asked { FreeAsked line.now sheet.old wholes.now tokens.now c }
-    requires term_ends { TermEnds line.now c low top }
+    requires term_ends { TermEnds line.now c term.low term.top }
     ensures { FreeLaid line.now sheet.old sheet.new c result }
 {
     let side = line.len() + 1;
     let row = c * side;
+    let Span { low, top } = term;
     lay_ends(sheet, row, low, top);
     let sign = wide(tokens[top]);
     let next = sign + 1;
@@ -268,8 +259,8 @@ fn lay_free(
         return inner;
     }
     match term_at(line, tokens, inner, c, reach) {
-        TermFound::Ends { low, top } => lay_term(line, sheet, wholes, tokens, c, low, top),
-        TermFound::Nothing => {
+        Some(term) => lay_term(line, sheet, wholes, tokens, c, term),
+        None => {
             lay(sheet, row, 0, side, NONE);
             NONE
         }
@@ -306,19 +297,18 @@ fn fill(line: &[u8], sheet: &mut [u8])
     ensures { Made line.now sheet.new 0 }
 {
     let side = line.len() + 1;
-    let mut c = line.len();
+    let end = line.len();
     let mut wholes = [NONE; STARTS];
     let mut tokens = [0u8; STARTS];
-    tokens[c] = c as u8;
+    tokens[end] = end as u8;
     let mut reach = Reach {
-        digits: c,
-        names: c,
+        digits: end,
+        names: end,
     };
-    lay(sheet, c * side, 0, side, NONE);
-    lay(sheet, side * side + c * side, 0, side, NONE);
-    while 0 < c {
-        let next = wide(tokens[c]);
-        c -= 1;
+    lay(sheet, end * side, 0, side, NONE);
+    lay(sheet, side * side + end * side, 0, side, NONE);
+    for c in (0..end).rev() {
+        let next = wide(tokens[c + 1]);
         let b = line[c];
         let white = token::is_whitespace(b);
         tokens[c] = next_or(white, next, c) as u8;
@@ -330,26 +320,16 @@ fn fill(line: &[u8], sheet: &mut [u8])
 }
 
 // Fills the sheet of a line: each entry is the greatest end within its limit. Number 3 comes before 18.
-pub fn fill_sheet(line: &[u8], sheet: &mut [u8]) -> Filling
+pub fn fill_sheet(line: &[u8], sheet: &mut [u8]) -> Result<u32, FillError>
     ensures answers { FillCall line.now sheet.old (fill_says result sheet.new) }
     ensures fits { FilledFits line.now (fill_says result sheet.new) }
 {
-    let found = line::check_line(line);
-    match found {
-        LineCheck::Good => {}
-        LineCheck::Bad { place } => {
-            return Filling::BadLine {
-                place: place as u32,
-            };
-        }
-    }
+    line::check_line(line)?;
     let side = line.len() + 1;
     let words = HALVES * (side * side);
     if sheet.len() != words {
-        return Filling::BadRoom;
+        return Err(FillError::BadRoom);
     }
     fill(line, sheet);
-    Filling::Filled {
-        words: words as u32,
-    }
+    Ok(words as u32)
 }

@@ -11,11 +11,11 @@ use lib.Dec.{leb, eqb}
 use lib.ListN.{length, get_or, drop, drop_of_length-le}
 use lib.Seq.{drop-cons}
 use borrow.Author.Tests.{le-leb, lt-leb, leb-true, eq-eqb, ne_eqb, eqb-true}
+use Rattle.std.specs.Prelude.{Option, None, Some}
 use Rattle.plain.specs.Choice.{select}
-use Rattle.plain.proofs.Tests.{not-both, and_left, and_right, and-off, and-on}
+use Rattle.plain.proofs.Options.{none-ne-some, some-ne-none, some_inj}
+use Rattle.plain.proofs.Tests.{and_left, and_right, and-off, and-on}
 use Rattle.lines.specs.Lines.{sheet_size, ends_fit, sheets_size, program_fits, ends_of}
-use Rattle.lines.specs.declared.Ends.{Ends}
-use Rattle.lines.specs.declared.Ends.TheVariants.{Good, Bad}
 
 -- ---- one sheet
 
@@ -57,11 +57,11 @@ module _ {text : ℕ} {ends : List ℕ} where
       unfolding ends_fit
       tested = p.fit ∙ ap (λ (es : List ℕ). ends_fit from es text) next
 
-      pub ends-fall : end < from → Bad ≡ ends_of text ends
+      pub ends-fall : end < from → None ≡ ends_of text ends
       unfolding ends_of
       ends-fall h = sym (rw (ends_of, tested, lt-leb from end h))
 
-      pub ends-pass : from ≤ end → text < end → Bad ≡ ends_of text ends
+      pub ends-pass : from ≤ end → text < end → None ≡ ends_of text ends
       unfolding ends_of
       ends-pass h k = sym (rw (ends_of, tested, le-leb from end h, lt-leb end text k))
 
@@ -77,7 +77,7 @@ module _ {text : ℕ} {ends : List ℕ} where
           sum : sheets + (sheet_size (end - from) + sheets_size end (drop (i + 1) ends)) ≡ sheets + size + sheets_size end (drop (i + 1) ends)
           sum = omega (arith, type_size)
 
-    pub passed-all : length ends ≤ i → Good sheets ≡ ends_of text ends
+    pub passed-all : length ends ≤ i → Some sheets ≡ ends_of text ends
     unfolding ends_of sheets_size ends_fit
     passed-all h =
         let over : drop i ends ≡ [] = drop_of_length-le ends h in
@@ -86,14 +86,6 @@ module _ {text : ℕ} {ends : List ℕ} where
         sym (rw (ends_of, fit, size))
 
 -- ---- the whole test
-
-abbrev is_good : Ends → Bool
-is_good (Good n) = true
-is_good Bad = false
-
-abbrev size_in : Ends → ℕ
-size_in (Good n) = n
-size_in Bad = 0
 
 module _ (text : ℕ) (ends : List ℕ) (sheets budgets bases rows : ℕ) where
   pub too_many : 256 < length ends → false ≡ program_fits text ends sheets budgets bases rows
@@ -106,26 +98,26 @@ module _ (text : ℕ) (ends : List ℕ) (sheets budgets bases rows : ℕ) where
     unfolding program_fits
     after-count e = and-on (le-leb (length ends) 256 few) e
 
-    bad-not-fit : Bad ≡ ends_of text ends → ends_fit 0 ends text ≡ false
+    bad-not-fit : None ≡ ends_of text ends → ends_fit 0 ends text ≡ false
     unfolding ends_of
     bad-not-fit = go (ends_fit 0 ends text)
       where
-        go : (b : Bool) → Bad ≡ select b (Good (sheets_size 0 ends)) Bad → b ≡ false
-        go true q = absurd (not-both refl (sym (ap is_good q)))
+        go : (b : Bool) → None ≡ select b (Some (sheets_size 0 ends)) None → b ≡ false
+        go true q = absurd (none-ne-some _ q)
         go false q = refl
 
-    pub ends-bad : (found : Ends) → found ≡ ends_of text ends → found ≡ Bad → false ≡ program_fits text ends sheets budgets bases rows
+    pub ends-bad : (found : Option ℕ) → found ≡ ends_of text ends → found ≡ None → false ≡ program_fits text ends sheets budgets bases rows
     ends-bad found e q = after-count (and-off _ (bad-not-fit (sym q ∙ e)))
 
-    good-fit : (size : ℕ) → Good size ≡ ends_of text ends → (ends_fit 0 ends text ≡ true) × (size ≡ sheets_size 0 ends)
+    good-fit : (size : ℕ) → Some size ≡ ends_of text ends → (ends_fit 0 ends text ≡ true) × (size ≡ sheets_size 0 ends)
     unfolding ends_of
     good-fit size = go (ends_fit 0 ends text)
       where
-        go : (b : Bool) → Good size ≡ select b (Good (sheets_size 0 ends)) Bad → (b ≡ true) × (size ≡ sheets_size 0 ends)
-        go true q = (refl, ap size_in q)
-        go false q = absurd (not-both refl (ap is_good q))
+        go : (b : Bool) → Some size ≡ select b (Some (sheets_size 0 ends)) None → (b ≡ true) × (size ≡ sheets_size 0 ends)
+        go true q = (refl, some_inj q)
+        go false q = absurd (some-ne-none _ q)
 
-    module _ (found : Ends) (e : found ≡ ends_of text ends) (size : ℕ) (q : found ≡ Good size) where
+    module _ (found : Option ℕ) (e : found ≡ ends_of text ends) (size : ℕ) (q : found ≡ Some size) where
       pub sheets-bad : (sheets ≡ size → ⊥) → false ≡ program_fits text ends sheets budgets bases rows
       sheets-bad ne =
           let (fit, is) = good-fit size (sym q ∙ e) in

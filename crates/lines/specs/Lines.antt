@@ -1,11 +1,9 @@
 -- A program's lines: where each begins and ends in the text, its sheet, its budget and its base, and when all that is lent for
 -- them fits.
 -- In words: docs/MANUAL.md, 11.
-use Rattle.std.specs.Prelude.{Bool, true, ◌&&◌, List, [], ◌∷◌, ℕ, ◌+◌, ◌*◌, ◌-◌, leb, eqb, length, get_or, take, drop}
+use Rattle.std.specs.Prelude.{Bool, true, ◌&&◌, List, [], ◌∷◌, ℕ, ◌+◌, ◌*◌, ◌-◌, leb, eqb, length, get_or, take, drop, Option, None, Some}
 use Rattle.std.proofs.Math.Seq.{slice}
 use Rattle.plain.specs.Choice.{select}
-use Rattle.lines.specs.declared.Ends.{Ends}
-use Rattle.lines.specs.declared.Ends.TheVariants.{Good, Bad}
 
 -- a line's bytes, its sheet, its budget and its base
 pub record Line : Type 0 where
@@ -47,5 +45,5 @@ program_fits text ends sheets budgets bases rows =
     && (eqb sheets (sheets_size 0 ends) && (eqb budgets (length ends) && (eqb bases (length ends) && eqb rows (2 * length ends)))))
 
 -- what the ends say: the bytes of all sheets, or that they don't fit
-unfoldable pub ends_of : ℕ → List ℕ → Ends
-ends_of text ends = select (ends_fit 0 ends text) (Good (sheets_size 0 ends)) Bad
+unfoldable pub ends_of : ℕ → List ℕ → Option ℕ
+ends_of text ends = select (ends_fit 0 ends text) (Some (sheets_size 0 ends)) None

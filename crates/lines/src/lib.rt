@@ -11,13 +11,6 @@ const MOST_LINES: usize = 256;
 // A longer line is refused, and has no sheet.
 const LONGEST: usize = 120;
 
-// What the ends say: the bytes of all sheets, or that the ends fall or pass the text.
-#[derive(Clone, Copy)]
-pub enum Ends {
-    Good(usize),
-    Bad,
-}
-
 // The bytes of a line's sheet.
 pub fn sheet_size(n: usize) -> usize
     ensures answers { result ≡ sheet_size n }
@@ -29,27 +22,25 @@ pub fn sheet_size(n: usize) -> usize
     2 * ((n + 1) * (n + 1))
 }
 
-// Goes over the ends once.
-fn measure(text: usize, ends: &[u32]) -> Ends
+// Goes over the ends once: the bytes of all sheets, or none where an end falls or passes the text.
+fn measure(text: usize, ends: &[u32]) -> Option<usize>
     requires { length ends.now ≤ 256 }
     ensures { result ≡ ends_of text ends.now }
 {
     let mut from: usize = 0;
     let mut sheets: usize = 0;
-    let mut i = 0;
-    while i < ends.len() {
-        let end = ends[i] as usize;
-        i += 1;
+    for end in ends {
+        let end = *end as usize;
         if end < from {
-            return Ends::Bad;
+            return None;
         }
         if text < end {
-            return Ends::Bad;
+            return None;
         }
         sheets += sheet_size(end - from);
         from = end;
     }
-    Ends::Good(sheets)
+    Some(sheets)
 }
 
 // Whether a program's parts fit one another: all that is lent for its lines but their own bytes, by its lengths.
@@ -66,20 +57,17 @@ pub fn check_program(
     if MOST_LINES < ends.len() {
         return false;
     }
-    let found = measure(text, ends);
-    match found {
-        Ends::Bad => false,
-        Ends::Good(size) => {
-            if sheets != size {
-                return false;
-            }
-            if budgets != ends.len() {
-                return false;
-            }
-            if bases != ends.len() {
-                return false;
-            }
-            rows == 2 * ends.len()
-        }
+    let Some(size) = measure(text, ends) else {
+        return false;
+    };
+    if sheets != size {
+        return false;
     }
+    if budgets != ends.len() {
+        return false;
+    }
+    if bases != ends.len() {
+        return false;
+    }
+    rows == 2 * ends.len()
 }

@@ -5,7 +5,7 @@ use mathlib.Core.Logic.{◌⊎◌, inl, inr}
 use mathlib.Core.Bool.{Bool, true, false}
 use mathlib.Core.List.Memᴰ
 use mathlib.Core.List.{List, [], ◌∷◌, Memᴰ}
-use Rattle.std.specs.Prelude.{Some}
+use Rattle.std.specs.Prelude.{Some, Result}
 use Prim.Native.Nat.{ℕ, ◌≤◌, ◌<◌}
 use native.Mathlib.Omega.{arith}
 use borrow.Author.Tests.{ltb-false, le-ltb, eqb-false, ne_eqb}
@@ -15,7 +15,7 @@ use Rattle.resolver.specs.Outcome.{Outcome, outcomes_of, is_resolved, is_known}
 use Rattle.resolver.specs.Outcome.Outcome.{unresolved}
 use Rattle.resolver.specs.Selection.{Selected, choice_of, answer_on, selected, selection_says, answered}
 use Rattle.resolver.specs.LastPass.{OnlyLeast, LastPass, OnLastPass}
-use Rattle.resolver.specs.declared.instruction.Selection.{Selection}
+use Rattle.resolver.specs.declared.instruction.SelectError.{SelectError}
 use Rattle.resolver.proofs.Words.{sized-known}
 use Rattle.plain.proofs.Passed.{count_at}
 use Rattle.resolver.proofs.Cases.{Case, none_known, is_tied, which, told_by, left_by, answer-by, on-outcomes}
@@ -60,7 +60,7 @@ module _ (os : List Outcome) where
         )
 
 module _
-    (ws : List ℕ) (last : Bool) (buffer : List ℕ) (r : Selection) {words after : List ℕ}
+    (ws : List ℕ) (last : Bool) (buffer : List ℕ) (r : Result ℕ SelectError) {words after : List ℕ}
     (answer : answered r words after ≡ selected ws last buffer) (on-last : last ≡ true) (os : List Outcome)
     (accepted : outcomes_of ws ≡ Some os) (room : 0 < length buffer) where
   answer-is : answered r words after ≡ answer_on ws true buffer os
@@ -97,11 +97,11 @@ module _
       or_else (case_0 n k t s) None-only = let (i, only) = no-tie-alone os k t in absurd (None-only i only)
 
 -- both promises of the call
-abbrev pub Promised : List ℕ → Bool → List ℕ → Selection → List ℕ → List ℕ → Type 0
+abbrev pub Promised : List ℕ → Bool → List ℕ → Result ℕ SelectError → List ℕ → List ℕ → Type 0
 Promised ws last buffer r words after =
     (answered r words after ≡ selected ws last buffer) × OnLastPass ws last buffer r after
 
 pub promised :
-    (ws : List ℕ) (last : Bool) (buffer : List ℕ) (r : Selection) {words after : List ℕ} →
+    (ws : List ℕ) (last : Bool) (buffer : List ℕ) (r : Result ℕ SelectError) {words after : List ℕ} →
     answered r words after ≡ selected ws last buffer → Promised ws last buffer r words after
 promised ws last buffer r answer = (answer, last-pass ws last buffer r answer)

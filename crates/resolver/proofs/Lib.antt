@@ -1,5 +1,6 @@
 pub mod Words
 pub mod Tally
+pub mod OtherKinds
 pub mod Least
 pub mod Written
 pub mod Marks

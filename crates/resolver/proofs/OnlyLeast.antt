@@ -15,9 +15,8 @@ use Rattle.resolver.specs.Outcome.{Outcome, is_known, size_of}
 use Rattle.resolver.specs.Outcome.Outcome.{unresolved}
 use Rattle.resolver.specs.Selection.{least_size, indices_of, choice_of}
 use Rattle.resolver.specs.LastPass.{size_at, OnlyLeast}
-use Rattle.resolver.specs.Passes.{or_more}
 use Rattle.plain.proofs.Kept.{kept-all, kept-only, one_kept}
-use Rattle.resolver.proofs.Least.{has-true, has_same, least-at-most, least-attained, least_known}
+use Rattle.resolver.proofs.Least.{has-true, has_same, least-at-most, least-attained, some_least}
 
 -- an outcome with a size is in the list
 in_list : (os : List Outcome) (i t : ℕ) → size_at os i ≡ Some t → i < length os
@@ -43,9 +42,9 @@ module _ (os : List Outcome) where
   -- where an outcome is known some index is chosen
   pub some-chosen : (count is_known os ≡ 0 → ⊥) → (i : ℕ) × Memᴰ i (choice_of os)
   some-chosen some_Known =
-      let least = least_known os some_Known in
-      let (i, within, size) = least-attained os (or_more (least_size os)) least in
-      (i, chosen-least i (or_more (least_size os)) least size)
+      let (m, least) = some_least os some_Known in
+      let (i, within, size) = least-attained os m least in
+      (i, chosen-least i m least size)
 
   -- an index that is chosen has the least size
   least-chosen : (i : ℕ) → Memᴰ i (choice_of os) → (m : ℕ) × (least_size os ≡ Some m) × (size_at os i ≡ Some m)

@@ -4,15 +4,14 @@
 -- the indices are written as 16-bit numbers at the buffer's start, the rest unchanged, and the count returned. Marks
 -- are made on 0 and 13 only."
 -- In words: docs/MANUAL.md, 9.2 and 9.3.
-use Rattle.std.specs.Prelude.{Bool, false, ◌&&◌, List, [], ◌∷◌, map, ℕ, min, ltb, eqb, length, get_or, Option, None, Some}
+use Rattle.std.specs.Prelude.{Bool, false, ◌&&◌, List, [], ◌∷◌, map, ℕ, min, ltb, eqb, length, get_or, Option, None, Some, Result, Ok, Err}
 use Rattle.plain.specs.Choice.{select}
 use Rattle.plain.specs.Buffers.{at_start}
 use Rattle.plain.specs.Lists.{range, keep_if, some_of, count}
 use Rattle.resolver.specs.Outcome.{Outcome, outcomes_of, word_of, is_guess, is_resolved, is_known, size_of, as_guess}
 use Rattle.resolver.specs.Outcome.Outcome.{unresolved}
-use Rattle.resolver.specs.declared.instruction.Selection.{Selection}
-use Rattle.resolver.specs.declared.instruction.Selection.TheVariants.{Chosen, BadList, NoneResolved}
-use Rattle.resolver.specs.declared.instruction.Selection.TheVariants.{NoneKnown, Tied, NoRoom}
+use Rattle.resolver.specs.declared.instruction.SelectError.{SelectError}
+use Rattle.resolver.specs.declared.instruction.SelectError.TheVariants.{BadList, NoneResolved, NoneKnown, Tied, NoRoom}
 
 -- if any outcome is a guess, every one of kind 1 to 3 gets its guess bit
 unfoldable pub marked : List Outcome → List Outcome
@@ -91,16 +90,16 @@ answer_of words last buffer (Some os) = answer_on words last buffer os
 unfoldable pub selected : List ℕ → Bool → List ℕ → Selected
 selected words last buffer = answer_of words last buffer (outcomes_of words)
 
--- the number and the count that each case of the enum stands for
-abbrev pub selection_says : Selection → ℕ × ℕ
-selection_says (Chosen n) = (0, n)
-selection_says BadList = (10, 0)
-selection_says NoneResolved = (11, 0)
-selection_says NoneKnown = (12, 0)
-selection_says (Tied n) = (13, n)
-selection_says (NoRoom n) = (14, n)
+-- the number and the count that each answer stands for
+abbrev pub selection_says : Result ℕ SelectError → ℕ × ℕ
+selection_says (Ok n) = (0, n)
+selection_says (Err BadList) = (10, 0)
+selection_says (Err NoneResolved) = (11, 0)
+selection_says (Err NoneKnown) = (12, 0)
+selection_says (Err (Tied n)) = (13, n)
+selection_says (Err (NoRoom n)) = (14, n)
 
 -- what a call answers that returns r and leaves these words and this buffer
-abbrev pub answered : Selection → List ℕ → List ℕ → Selected
+abbrev pub answered : Result ℕ SelectError → List ℕ → List ℕ → Selected
 answered r words buffer =
     record { number = (selection_says r).0; count = (selection_says r).1; words = words; buffer = buffer }

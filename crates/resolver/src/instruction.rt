@@ -14,13 +14,9 @@ use crate::outcome::{has_size, is_bad, is_guess, is_known, is_resolved, mark_gue
 // The most words that a list may have.
 const MOST_WORDS: usize = 4096;
 
-// More than any size.
-const NO_SIZE: u32 = 65_536;
-
-// The answer. `selection_says` gives each case's number and count: 0, 10, 11, 12, 13 and 14, in this order.
+// Why nothing is chosen. `selection_says` gives each case's number and count: 10 to 14, in this order, and 0 for a choice.
 #[derive(Clone, Copy)]
-pub enum Selection {
-    Chosen { count: usize },
+pub enum SelectError {
     BadList,
     NoneResolved,
     NoneKnown,
@@ -33,7 +29,6 @@ pub enum Selection {
 struct Tally {
     bad: usize,
     resolved: usize,
-    known: usize,
     guesses: usize,
 }
 
@@ -44,63 +39,53 @@ struct Least {
     count: usize,
 }
 
-// Judges the words: how many are bad, and how many outcomes are resolved, known and guesses.
+// Judges the words: how many are bad, and how many outcomes are resolved and guesses.
 fn judge(words: &[u32]) -> Tally
-    ensures tally { Tallied words.now result.bad result.resolved result.known result.guesses }
+    ensures tally { Tallied words.now result.bad result.resolved result.guesses }
 {
     let mut bad = 0;
     let mut resolved = 0;
-    let mut known = 0;
     let mut guesses = 0;
-    let mut i = 0;
-    while i < words.len() {
-        let word = words[i];
-        bad = bad + is_bad(word) as usize;
-        resolved = resolved + is_resolved(word) as usize;
-        known = known + is_known(word) as usize;
-        guesses = guesses + is_guess(word) as usize;
-        i = i + 1;
+    for word in words {
+        bad += is_bad(*word) as usize;
+        resolved += is_resolved(*word) as usize;
+        guesses += is_guess(*word) as usize;
     }
     Tally {
         bad,
         resolved,
-        known,
         guesses,
     }
 }
 
-// The least size among the sized outcomes, or more than any if there are none, and how many have it.
-fn smallest(words: &[u32]) -> Least
+// The least size among the sized outcomes, and how many have it, or none if none is sized.
+fn smallest(words: &[u32]) -> Option<Least>
     requires good { some_of is_bad words.now ≡ false }
-    ensures least { Smallest (map outcome_of words.now) result.size result.count }
+    ensures least { Smallest (map outcome_of words.now) result }
 {
-    let mut least = NO_SIZE;
-    let mut count = 0;
-    let mut i = 0;
-    while i < words.len() {
-        let word = words[i];
-        i = i + 1;
-        if is_known(word) {
-            let size = size(word);
-            if size < least {
-                least = size;
-                count = 1;
-            } else if size == least {
-                count = count + 1;
-            }
+    let mut least: Option<Least> = None;
+    for word in words {
+        if is_known(*word) {
+            let size = size(*word);
+            least = Some(match least {
+                Some(found) if found.size < size => found,
+                Some(found) if found.size == size => Least {
+                    size,
+                    count: found.count + 1,
+                },
+                _ => Least { size, count: 1 },
+            });
         }
     }
-    Least { size: least, count }
+    least
 }
 
 // Every word of kind 1 to 3 gets its guess bit.
 fn mark_all(words: &mut [u32])
     ensures marked { words.new ≡ map marked_word words.old }
 {
-    let mut i = 0;
-    while i < words.len() {
-        words[i] = mark_guess(words[i]);
-        i = i + 1;
+    for word in words.iter_mut() {
+        *word = mark_guess(*word);
     }
 }
 
@@ -122,13 +107,10 @@ fn write(words: &[u32], size: u32, chosen: &mut [u16])
     ensures written { chosen.new ≡ at_start (indices_of (Some size) (map outcome_of words.now)) chosen.old }
 {
     let mut at = 0;
-    let mut i = 0;
-    while i < words.len() {
-        let index = i;
-        i = i + 1;
-        if has_size(words[index], size) {
+    for (index, word) in words.iter().enumerate() {
+        if has_size(*word, size) {
             chosen[at] = index as u16;
-            at = at + 1;
+            at += 1;
         }
     }
 }
@@ -136,33 +118,36 @@ fn write(words: &[u32], size: u32, chosen: &mut [u16])
 // Chooses the sized outcomes of least size by index, ascending. If any outcome is a guess, every word of kind 1 to 3
 // gets its guess bit. On a guessing pass all are returned; on the last pass two or more are a tie. Marks are made on a
 // choice and on a tie only, and only a choice is written.
-pub fn resolve_encoding(words: &mut [u32], last: bool, chosen: &mut [u16]) -> Selection
+pub fn resolve_encoding(
+    words: &mut [u32],
+    last: bool,
+    chosen: &mut [u16],
+) -> Result<usize, SelectError>
     ensures answers { answered result words.new chosen.new ≡ selected words.old last chosen.old }
     ensures last_pass { OnLastPass words.old last chosen.old result chosen.new }
 {
     if words.len() > MOST_WORDS {
-        return Selection::BadList;
+        return Err(SelectError::BadList);
     }
     let tally = judge(words);
     if tally.bad > 0 {
-        return Selection::BadList;
+        return Err(SelectError::BadList);
     }
     if tally.resolved == 0 {
-        return Selection::NoneResolved;
+        return Err(SelectError::NoneResolved);
     }
-    if tally.known == 0 {
-        return Selection::NoneKnown;
-    }
-    let least = smallest(words);
+    let Some(least) = smallest(words) else {
+        return Err(SelectError::NoneKnown);
+    };
     let count = least.count;
     if last && count > 1 {
         mark(words, tally.guesses);
-        return Selection::Tied { count };
+        return Err(SelectError::Tied { count });
     }
     if count > chosen.len() {
-        return Selection::NoRoom { count };
+        return Err(SelectError::NoRoom { count });
     }
     write(words, least.size, chosen);
     mark(words, tally.guesses);
-    Selection::Chosen { count }
+    Ok(count)
 }

@@ -4,7 +4,7 @@ ghost use Rattle.std.specs.Prelude.{◌≡◌, Some};
 ghost use Rattle.resolver.specs.Outcome.{kind_in, size_in, outcome_of, is_bad};
 ghost use Rattle.resolver.specs.Outcome.{is_guess, is_resolved, is_known};
 ghost use Rattle.resolver.specs.Selection.{has_size};
-ghost use Rattle.resolver.specs.Passes.{marked_word};
+ghost use Rattle.resolver.specs.Passes.{kind_says, marked_word};
 
 // What a kind and a size are multiplied by in a word, and how many kinds there are.
 const KIND_UNIT: u32 = 2;
@@ -13,23 +13,29 @@ const SIZE_UNIT: u32 = 8;
 
 const KINDS: u32 = 4;
 
-// The kinds.
-const UNRESOLVED: u32 = 0;
-
-const FAILED: u32 = 1;
-
-const UNKNOWN: u32 = 2;
-
-const SIZED: u32 = 3;
-
 // The greatest size.
 const MOST_SIZE: u32 = 65_535;
 
-// A word's kind.
-fn kind(word: u32) -> u32
-    ensures kind { result ≡ kind_in word }
-{
-    word / KIND_UNIT % KINDS
+#[derive(Clone, Copy)]
+enum Kind {
+    Unresolved,
+    Failed,
+    Unknown,
+    Sized,
+}
+
+impl Kind {
+    // A word's kind.
+    fn of(word: u32) -> Kind
+        ensures kind { kind_says result ≡ kind_in word }
+    {
+        match word / KIND_UNIT % KINDS {
+            0 => Kind::Unresolved,
+            1 => Kind::Failed,
+            2 => Kind::Unknown,
+            _ => Kind::Sized,
+        }
+    }
 }
 
 // A word's size.
@@ -44,57 +50,50 @@ pub fn size(word: u32) -> u32
 pub fn is_bad(word: u32) -> bool
     ensures bad { result ≡ is_bad word }
 {
-    let kind = kind(word);
-    if kind == UNRESOLVED {
-        return word != 0;
+    match Kind::of(word) {
+        Kind::Unresolved => word != 0,
+        Kind::Failed | Kind::Unknown => size(word) != 0,
+        Kind::Sized => MOST_SIZE < size(word),
     }
-    let size = size(word);
-    if kind == SIZED {
-        return MOST_SIZE < size;
-    }
-    size != 0
 }
 
 // Whether the outcome is a guess. An unresolved one counts as one.
 pub fn is_guess(word: u32) -> bool
     ensures guess { result ≡ is_guess (outcome_of word) }
 {
-    if kind(word) == UNRESOLVED {
-        return true;
+    match Kind::of(word) {
+        Kind::Unresolved => true,
+        _ => word % KIND_UNIT == 1,
     }
-    word % KIND_UNIT == 1
 }
 
 // Whether the outcome is resolved: kinds 2 and 3.
 pub fn is_resolved(word: u32) -> bool
     ensures resolved { result ≡ is_resolved (outcome_of word) }
 {
-    UNKNOWN <= kind(word)
+    matches!(Kind::of(word), Kind::Unknown | Kind::Sized)
 }
 
 // Whether the outcome is known: kind 3.
 pub fn is_known(word: u32) -> bool
     ensures known { result ≡ is_known (outcome_of word) }
 {
-    kind(word) == SIZED
+    matches!(Kind::of(word), Kind::Sized)
 }
 
 // Whether the outcome is sized with this size.
 pub fn has_size(word: u32, wanted: u32) -> bool
     ensures same { result ≡ has_size (Some wanted) (outcome_of word) }
 {
-    if !is_known(word) {
-        return false;
-    }
-    wanted == size(word)
+    is_known(word) && wanted == size(word)
 }
 
 // The word with its guess bit, if it is of kind 1 to 3. An unresolved word stays.
 pub fn mark_guess(word: u32) -> u32
     ensures marked { result ≡ marked_word word }
 {
-    if FAILED <= kind(word) {
-        return word - word % KIND_UNIT + 1;
+    match Kind::of(word) {
+        Kind::Unresolved => word,
+        _ => word - word % KIND_UNIT + 1,
     }
-    word
 }

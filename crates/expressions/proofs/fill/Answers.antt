@@ -1,6 +1,7 @@
-use mathlib.Core.Path.{refl}
+use mathlib.Core.Path.{refl, ap, ◌∙◌}
+use Prim.Native.Nat.{ℕ}
 use native.Mathlib.Omega.{arith}
-use lib.ListN.{length}
+use lib.ListN.{length, get_or}
 use Rattle.plain.specs.Below.{every_below}
 use Rattle.plain.specs.Lists.{range, listed}
 use Rattle.extents.specs.declared.Half.TheVariants.{Free, Greedy}
@@ -21,10 +22,10 @@ pub lay_free-whole-requires-clause-reaches : goal.lay_free-whole-requires-clause
 lay_free-whole-requires-clause-reaches c = reach-next c.args.line.now c.loop-c.tokens c.loop-c.c c.loop-c.invariant.0 c.loop-c-test.true c.requires.line_len_bound c.reach_at-reach.result c.loop-c.reach c.loop-c.invariant.2.1 c.reach_at-reach.ensures
 
 pub lay_greedy-requires-clause-made : goal.lay_greedy-requires-clause-made
-lay_greedy-requires-clause-made c = let (made, start) = greedy-asked c.args.line.now c.loop-c.sheet c.loop-c.wholes _ c.loop-c.c c.loop-c.invariant.0 c.loop-c-test.true c.loop-c.invariant.1.0 c.loop-c.invariant.1.1 (tokens-next c.args.line.now c.loop-c.tokens c.loop-c.c c.loop-c.invariant.0 c.loop-c-test.true c.requires.line_len_bound c.loop-c.invariant.2.0 c.is_whitespace-white.ensures.answers c.wide-next.result c.next_or.result c.wide-next.ensures.0 c.next_or.ensures) c.lay_free-whole.new.sheet c.lay_free-whole.result c.lay_free-whole.ensures in made
+lay_greedy-requires-clause-made c = let (made, start) = greedy-asked c.args.line.now c.loop-c.sheet c.loop-c.wholes _ c.loop-c.c c.loop-c.invariant.0 c.loop-c-test.true c.loop-c.invariant.1.0 c.loop-c.invariant.1.1 (tokens-next c.args.line.now c.loop-c.tokens c.loop-c.c c.loop-c.invariant.0 c.loop-c-test.true c.requires.line_len_bound c.loop-c.invariant.2.0 c.is_whitespace-white.ensures.answers c.wide-next.result c.next_or.result (c.wide-next.ensures.0 ∙ ap (λ (k : ℕ). get_or c.loop-c.tokens k 0) (omega arith)) c.next_or.ensures) c.lay_free-whole.new.sheet c.lay_free-whole.result c.lay_free-whole.ensures in made
 
 pub lay_greedy-requires-clause-digits_value : goal.lay_greedy-requires-clause-digits_value
-lay_greedy-requires-clause-digits_value c = let (made, start) = greedy-asked c.args.line.now c.loop-c.sheet c.loop-c.wholes _ c.loop-c.c c.loop-c.invariant.0 c.loop-c-test.true c.loop-c.invariant.1.0 c.loop-c.invariant.1.1 (tokens-next c.args.line.now c.loop-c.tokens c.loop-c.c c.loop-c.invariant.0 c.loop-c-test.true c.requires.line_len_bound c.loop-c.invariant.2.0 c.is_whitespace-white.ensures.answers c.wide-next.result c.next_or.result c.wide-next.ensures.0 c.next_or.ensures) c.lay_free-whole.new.sheet c.lay_free-whole.result c.lay_free-whole.ensures in (reach-next c.args.line.now c.loop-c.tokens c.loop-c.c c.loop-c.invariant.0 c.loop-c-test.true c.requires.line_len_bound c.reach_at-reach.result c.loop-c.reach c.loop-c.invariant.2.1 c.reach_at-reach.ensures).digits
+lay_greedy-requires-clause-digits_value c = let (made, start) = greedy-asked c.args.line.now c.loop-c.sheet c.loop-c.wholes _ c.loop-c.c c.loop-c.invariant.0 c.loop-c-test.true c.loop-c.invariant.1.0 c.loop-c.invariant.1.1 (tokens-next c.args.line.now c.loop-c.tokens c.loop-c.c c.loop-c.invariant.0 c.loop-c-test.true c.requires.line_len_bound c.loop-c.invariant.2.0 c.is_whitespace-white.ensures.answers c.wide-next.result c.next_or.result (c.wide-next.ensures.0 ∙ ap (λ (k : ℕ). get_or c.loop-c.tokens k 0) (omega arith)) c.next_or.ensures) c.lay_free-whole.new.sheet c.lay_free-whole.result c.lay_free-whole.ensures in (reach-next c.args.line.now c.loop-c.tokens c.loop-c.c c.loop-c.invariant.0 c.loop-c-test.true c.requires.line_len_bound c.reach_at-reach.result c.loop-c.reach c.loop-c.invariant.2.1 c.reach_at-reach.ensures).digits
 
 pub loop-c-preserved : goal.loop-c-preserved
-loop-c-preserved c = let tokens = tokens-next c.args.line.now c.loop-c.tokens c.loop-c.c c.loop-c.invariant.0 c.loop-c-test.true c.requires.line_len_bound c.loop-c.invariant.2.0 c.is_whitespace-white.ensures.answers c.wide-next.result c.next_or.result c.wide-next.ensures.0 c.next_or.ensures in let (start, made, wholes) = start-done c.args.line.now c.loop-c.sheet c.loop-c.wholes _ c.loop-c.c c.loop-c.invariant.0 c.loop-c-test.true c.loop-c.invariant.1.0 c.loop-c.invariant.1.1 tokens c.lay_free-whole.new.sheet c.lay_free-whole.result c.lay_free-whole.ensures c.lay_greedy.new.sheet c.lay_greedy.ensures in (start, (made, wholes), (tokens, reach-next c.args.line.now c.loop-c.tokens c.loop-c.c c.loop-c.invariant.0 c.loop-c-test.true c.requires.line_len_bound c.reach_at-reach.result c.loop-c.reach c.loop-c.invariant.2.1 c.reach_at-reach.ensures))
+loop-c-preserved c = let tokens = tokens-next c.args.line.now c.loop-c.tokens c.loop-c.c c.loop-c.invariant.0 c.loop-c-test.true c.requires.line_len_bound c.loop-c.invariant.2.0 c.is_whitespace-white.ensures.answers c.wide-next.result c.next_or.result (c.wide-next.ensures.0 ∙ ap (λ (k : ℕ). get_or c.loop-c.tokens k 0) (omega arith)) c.next_or.ensures in let (start, made, wholes) = start-done c.args.line.now c.loop-c.sheet c.loop-c.wholes _ c.loop-c.c c.loop-c.invariant.0 c.loop-c-test.true c.loop-c.invariant.1.0 c.loop-c.invariant.1.1 tokens c.lay_free-whole.new.sheet c.lay_free-whole.result c.lay_free-whole.ensures c.lay_greedy.new.sheet c.lay_greedy.ensures in (start, (made, wholes), (tokens, reach-next c.args.line.now c.loop-c.tokens c.loop-c.c c.loop-c.invariant.0 c.loop-c-test.true c.requires.line_len_bound c.reach_at-reach.result c.loop-c.reach c.loop-c.invariant.2.1 c.reach_at-reach.ensures))

@@ -8,6 +8,3 @@ use Rattle.expressions.proofs.fill.Given as goal
 abbrev pub invariant-loop-c : goal.invariant-loop-c
 invariant-loop-c l =
     (l.c ≤ length l.line) × (Made l.line l.sheet l.c × Wholes l.line l.wholes l.c) × (Tokens l.line l.tokens l.c × Reaches l.line l.c l.reach)
-
-abbrev pub decreases-loop-c : goal.decreases-loop-c
-decreases-loop-c l = l.c

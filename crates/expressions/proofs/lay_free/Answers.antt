@@ -22,11 +22,11 @@ term_at-requires-clause-follows c = inner-follows c.args.line.now c.args.wholes.
 
 pub lay_term-requires-clause-term_ends : goal.lay_term-requires-clause-term_ends
 unfolding is_minus
-lay_term-requires-clause-term_ends c = term-some c.args.line.now c.args.wholes.now c.args.c (get_or c.args.wholes.now (c.args.c + 1) 0) c.requires.free_asked.ends c.requires.free_asked.start refl (changes-told (byte_at c.args.line.now c.args.c) c.requires.white_value refl) c.if-white-minus.false _ _ (ap term_says (sym c.in-Ends.is) ∙ c.term_at.ensures)
+lay_term-requires-clause-term_ends c = term-some c.args.line.now c.args.wholes.now c.args.c (get_or c.args.wholes.now (c.args.c + 1) 0) c.requires.free_asked.ends c.requires.free_asked.start refl (changes-told (byte_at c.args.line.now c.args.c) c.requires.white_value refl) c.if-white-minus.false _ _ (ap term_says (sym c.in-Some.is) ∙ c.term_at.ensures)
 
 pub lay-requires-clause-to_in_bounds : goal.lay-requires-clause-to_in_bounds
 lay-requires-clause-to_in_bounds c = one-row c.args.line.now c.args.sheet.now c.args.c c.requires.free_asked.made c.requires.free_asked.start Free c.args.sheet.now refl
 
-pub returns-in-Nothing : goal.returns-in-Nothing
+pub returns-in-None : goal.returns-in-None
 unfolding is_minus
-returns-in-Nothing c = free-none c.args.line.now c.args.sheet.now c.lay.new.sheet c.args.c c.requires.free_asked.made c.requires.free_asked.start (term-none c.args.line.now c.args.wholes.now c.args.c (get_or c.args.wholes.now (c.args.c + 1) 0) c.requires.free_asked.ends c.requires.free_asked.start refl (changes-told (byte_at c.args.line.now c.args.c) c.requires.white_value refl) c.if-white-minus.false (ap term_says (sym c.in-Nothing.is) ∙ c.term_at.ensures)) c.lay.ensures
+returns-in-None c = free-none c.args.line.now c.args.sheet.now c.lay.new.sheet c.args.c c.requires.free_asked.made c.requires.free_asked.start (term-none c.args.line.now c.args.wholes.now c.args.c (get_or c.args.wholes.now (c.args.c + 1) 0) c.requires.free_asked.ends c.requires.free_asked.start refl (changes-told (byte_at c.args.line.now c.args.c) c.requires.white_value refl) c.if-white-minus.false (ap term_says (sym c.in-None.is) ∙ c.term_at.ensures)) c.lay.ensures

@@ -23,4 +23,4 @@ pub lay-requires-clause-to_in_bounds : goal.lay-requires-clause-to_in_bounds
 lay-requires-clause-to_in_bounds c = one-row c.args.line.now c.args.sheet.now c.args.c c.requires.free_asked.made c.requires.free_asked.start Free c.lay_ends.new.sheet c.lay_ends.ensures.long
 
 pub returns : goal.returns
-returns c = free-alone c.args.line.now c.args.sheet.now c.lay_ends.new.sheet c.lay.new.sheet c.args.c c.args.low c.args.top c.requires.free_asked.made c.requires.free_asked.start c.requires.term_ends c.lay_ends.ensures (operator-none c.args.line.now c.args.top c.wide-sign.result c.byte_at.result (c.wide-sign.ensures.0 ∙ (term-follows c.requires.free_asked c.requires.term_ends).1) c.byte_at.ensures c.is_operator.ensures c.if-is_operator.false) c.lay.ensures
+returns c = free-alone c.args.line.now c.args.sheet.now c.lay_ends.new.sheet c.lay.new.sheet c.args.c c.args.term.low c.args.term.top c.requires.free_asked.made c.requires.free_asked.start c.requires.term_ends c.lay_ends.ensures (operator-none c.args.line.now c.args.term.top c.wide-sign.result c.byte_at.result (c.wide-sign.ensures.0 ∙ (term-follows c.requires.free_asked c.requires.term_ends).1) c.byte_at.ensures c.is_operator.ensures c.if-is_operator.false) c.lay.ensures

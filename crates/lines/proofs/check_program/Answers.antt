@@ -2,23 +2,22 @@
 use native.Mathlib.Omega.{arith}
 use mathlib.Core.Path.{refl}
 use Rattle.lines.proofs.Measured.{too_many, ends-bad, sheets-bad, budgets-bad, bases-bad, rows_told}
-use borrow.Author.Rules.{rules}
 use Rattle.lines.proofs.check_program.Goals as goal
 
 pub returns-then-ends-gt-MOST_LINES : goal.returns-then-ends-gt-MOST_LINES
-returns-then-ends-gt-MOST_LINES c = record { answers = too_many _ _ _ _ _ _ (omega (arith, c.if-ends-gt-MOST_LINES.true)) }
+returns-then-ends-gt-MOST_LINES c = record { answers = too_many _ _ _ _ _ _ (omega arith) }
 
 pub returns-then-sheets-size : goal.returns-then-sheets-size
-returns-then-sheets-size c = record { answers = sheets-bad _ _ _ _ _ _ (omega (arith, c.if-ends-gt-MOST_LINES.false)) _ c.measure-found.ensures _ c.in-Good.is c.if-sheets-size.true }
+returns-then-sheets-size c = record { answers = sheets-bad _ _ _ _ _ _ (omega arith) _ c.measure.ensures _ c.in-Some.is c.if-sheets-size.true }
 
 pub returns-then-budgets-ends : goal.returns-then-budgets-ends
-returns-then-budgets-ends c = record { answers = budgets-bad _ _ _ _ _ _ (omega (arith, c.if-ends-gt-MOST_LINES.false)) _ c.measure-found.ensures _ c.in-Good.is c.if-sheets-size.false c.if-budgets-ends.true }
+returns-then-budgets-ends c = record { answers = budgets-bad _ _ _ _ _ _ (omega arith) _ c.measure.ensures _ c.in-Some.is c.if-sheets-size.false c.if-budgets-ends.true }
 
 pub returns-then-bases-ends : goal.returns-then-bases-ends
-returns-then-bases-ends c = record { answers = bases-bad _ _ _ _ _ _ (omega (arith, c.if-ends-gt-MOST_LINES.false)) _ c.measure-found.ensures _ c.in-Good.is c.if-sheets-size.false c.if-budgets-ends.false c.if-bases-ends.true }
+returns-then-bases-ends c = record { answers = bases-bad _ _ _ _ _ _ (omega arith) _ c.measure.ensures _ c.in-Some.is c.if-sheets-size.false c.if-budgets-ends.false c.if-bases-ends.true }
 
-pub returns-in-Bad : goal.returns-in-Bad
-returns-in-Bad c = record { answers = ends-bad _ _ _ _ _ _ (omega (arith, c.if-ends-gt-MOST_LINES.false)) _ c.measure-found.ensures c.in-Bad.is }
+pub returns-in_default : goal.returns-in_default
+returns-in_default c = record { answers = ends-bad _ _ _ _ _ _ (omega arith) _ c.measure.ensures c.in_default.is }
 
-pub returns-else-bases-ends : goal.returns-else-bases-ends
-returns-else-bases-ends c = record { answers = rows_told _ _ _ _ _ _ (omega (arith, c.if-ends-gt-MOST_LINES.false)) _ c.measure-found.ensures _ c.in-Good.is c.if-sheets-size.false c.if-budgets-ends.false c.if-bases-ends.false refl }
+pub returns : goal.returns
+returns c = record { answers = rows_told _ _ _ _ _ _ (omega arith) _ c.measure.ensures _ c.in-Some.is c.if-sheets-size.false c.if-budgets-ends.false c.if-bases-ends.false refl }

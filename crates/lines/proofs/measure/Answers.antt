@@ -1,19 +1,16 @@
-use Prim.Native.Nat.{◌-◌}
 use mathlib.Core.Path.{refl}
-use lib.ListN.{length}
 use native.Mathlib.Omega.{arith}
-use Rattle.lines.proofs.Measured.{Passed, passed_none, passed-more, passed-all, ends-fall, ends-pass}
-use borrow.Author.Rules.{rules}
+use Rattle.lines.proofs.Measured.{passed-more, passed-all, ends-fall, ends-pass}
 use Rattle.lines.proofs.measure.Goals as goal
 
 pub returns-then-end-from : goal.returns-then-end-from
-returns-then-end-from c = ends-fall c.loop-i.invariant c.loop-i-test.true _ refl (omega (arith, c.if-end-from.true))
+returns-then-end-from c = ends-fall c.loop-end.invariant (omega arith) _ refl (omega arith)
 
 pub returns-then-text-end : goal.returns-then-text-end
-returns-then-text-end c = ends-pass c.loop-i.invariant c.loop-i-test.true _ refl (omega (arith, c.if-end-from.false)) (omega (arith, c.if-text-end.true))
+returns-then-text-end c = ends-pass c.loop-end.invariant (omega arith) _ refl (omega arith) (omega arith)
 
-pub loop-i-preserved : goal.loop-i-preserved
-loop-i-preserved c = passed-more c.loop-i.invariant c.loop-i-test.true _ refl (omega (arith, c.if-end-from.false)) (omega arith) _ c.sheet_size-sheets.ensures.answers c.sheet_size-sheets.ensures.small
+pub loop-end-preserved : goal.loop-end-preserved
+loop-end-preserved c = passed-more c.loop-end.invariant (omega arith) _ refl (omega arith) (omega arith) _ c.sheet_size-sheets.ensures.answers c.sheet_size-sheets.ensures.small
 
 pub returns : goal.returns
-returns c = passed-all c.loop-i.invariant c.loop-i-test.false
+returns c = passed-all c.loop-end.invariant (omega arith)

@@ -1,7 +1,6 @@
 -- `lines::sheet_size` meets its contract.
 use native.Mathlib.Omega.{arith}
-use Rattle.lines.proofs.Measured.{size_none, size_fits, size_is}
-use borrow.Author.Rules.{rules}
+use Rattle.lines.proofs.Measured.{size_none, size_is}
 use Rattle.lines.proofs.sheet_size.Goals as goal
 
 pub returns-then-n-gt-LONGEST-clause-answers : goal.returns-then-n-gt-LONGEST-clause-answers

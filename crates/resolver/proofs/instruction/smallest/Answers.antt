@@ -1,45 +1,37 @@
-use Rattle.resolver.proofs.Least.{none_passed}
-use Rattle.resolver.proofs.Least.{pass-unknown, pass-less, pass_same, pass-greater}
+use mathlib.Core.Path.{sym, ap, ◌∙◌}
+use native.Mathlib.Omega.{arith}
+use Rattle.plain.proofs.Options.{some_inj}
+use Rattle.resolver.specs.declared.instruction.Least.{Least}
+use Rattle.resolver.proofs.Least.{none_passed, all-passed}
+use Rattle.resolver.proofs.Least.{pass-unknown, pass-first, pass-less, pass_same, pass-greater}
 use Rattle.resolver.proofs.instruction.smallest.Goals as goal
+use Rattle.resolver.proofs.instruction.smallest.Goals.{then-is_known+in-Some, then-is_known+in-Some-2, then-is_known+in_default-2, then-is_known+in_default, else-is_known}
 
-pub loop-i-init : goal.loop-i-init
-loop-i-init c = none_passed _ c.requires.good
+pub loop-word-init : goal.loop-word-init
+loop-word-init c = none_passed _ c.requires.good
 
-pub loop-i-preserved-then-size-least : goal.loop-i-preserved-then-size-least
-loop-i-preserved-then-size-least c =
-    pass-less
-    c.loop-i.invariant
-    c.loop-i-test.true
-    c.is_known.ensures.known
-    c.if-is_known.true
-    c.size-size.ensures.size
-    c.if-size-least.true
+pub loop-word-preserved : goal.loop-word-preserved
+loop-word-preserved c =
+    elim c.if-is_known.branch [
+      | then-is_known+in-Some w ↦
+          rw w.least-is (pass-greater
+          c.loop-word.invariant (omega arith) c.is_known.ensures.known w.if-is_known.true w.size-size.ensures.size
+          w.in-Some.is (omega arith))
+      | then-is_known+in-Some-2 w ↦
+          rw w.least-is (pass_same
+          c.loop-word.invariant (omega arith) c.is_known.ensures.known w.if-is_known.true w.size-size.ensures.size
+          w.in-Some-2.is (omega arith))
+      | then-is_known+in_default-2 w ↦
+          rw w.least-is (pass-less
+          c.loop-word.invariant (omega arith) c.is_known.ensures.known w.if-is_known.true w.size-size.ensures.size
+          w.in-Some.is (omega (arith, ap (λ (l : Least). l.size) (some_inj (sym w.in-Some.is ∙ w.in-Some-2.is)))))
+      | then-is_known+in_default w ↦
+          rw w.least-is (pass-first
+          c.loop-word.invariant (omega arith) c.is_known.ensures.known w.if-is_known.true w.size-size.ensures.size
+          w.in_default.is)
+      | else-is_known w ↦
+          rw w.least-is (pass-unknown c.loop-word.invariant (omega arith) c.is_known.ensures.known w.if-is_known.false)
+    ]
 
-pub loop-i-preserved-then-size-least-2 : goal.loop-i-preserved-then-size-least-2
-loop-i-preserved-then-size-least-2 c =
-    pass_same
-    c.loop-i.invariant
-    c.loop-i-test.true
-    c.is_known.ensures.known
-    c.if-is_known.true
-    c.size-size.ensures.size
-    c.if-size-least-2.true
-
-pub loop-i-preserved-else-size-least-2 : goal.loop-i-preserved-else-size-least-2
-loop-i-preserved-else-size-least-2 c =
-    pass-greater
-    c.loop-i.invariant
-    c.loop-i-test.true
-    c.is_known.ensures.known
-    c.if-is_known.true
-    c.size-size.ensures.size
-    c.if-size-least.false
-    c.if-size-least-2.false
-
-pub loop-i-preserved : goal.loop-i-preserved
-loop-i-preserved c =
-    pass-unknown
-    c.loop-i.invariant
-    c.loop-i-test.true
-    c.is_known.ensures.known
-    c.if-is_known.false
+pub returns : goal.returns
+returns c = record { least = all-passed c.loop-word.invariant (omega arith) }

@@ -1,13 +1,9 @@
--- `resolver::outcome::has_size` meets its contract: the kind is 3 and the size is the one wanted.
 use mathlib.Core.Path.{sym, ◌∙◌}
 use Rattle.resolver.proofs.Words.{known-by-kind, size-by-kind}
 use Rattle.resolver.proofs.outcome.has_size.Goals as goal
 
-pub returns-then-not-is_known : goal.returns-then-not-is_known
-returns-then-not-is_known c = record { same = rw (size-by-kind, sym (known-by-kind _) ∙ sym c.is_known.ensures.known ∙ c.if-not-is_known.true) }
+pub returns-then-is_known : goal.returns-then-is_known
+returns-then-is_known c = record { same = rw (size-by-kind, sym (known-by-kind _) ∙ sym c.is_known.ensures.known ∙ c.if-is_known.true, c.size.ensures.size) }
 
-pub returns : goal.returns
-returns c = record {
-  same =
-      rw (size-by-kind, sym (known-by-kind _) ∙ sym c.is_known.ensures.known ∙ c.if-not-is_known.false, c.size.ensures.size);
-}
+pub returns-else-is_known : goal.returns-else-is_known
+returns-else-is_known c = record { same = c.if-is_known.false ∙ rw (size-by-kind, sym (known-by-kind _) ∙ sym c.is_known.ensures.known ∙ c.if-is_known.false) }

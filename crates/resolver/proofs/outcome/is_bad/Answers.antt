@@ -1,22 +1,15 @@
--- `resolver::outcome::is_bad` meets its contract: each answer rewrites with the tests of the kind that led to it.
-use mathlib.Core.Path.{sym, ◌∙◌}
-use borrow.Author.Tests.{ne_eqb}
+use mathlib.Core.Logic.{⊎_elim}
 use Rattle.resolver.specs.Outcome.{is_bad}
 use Rattle.resolver.proofs.outcome.is_bad.Goals as goal
 
-pub returns-then-kind-eq-UNRESOLVED : goal.returns-then-kind-eq-UNRESOLVED
+pub returns-in-Unresolved : goal.returns-in-Unresolved
 unfolding is_bad
-returns-then-kind-eq-UNRESOLVED c = record { bad = rw (sym c.kind-kind.ensures.kind ∙ c.if-kind-eq-UNRESOLVED.true) }
+returns-in-Unresolved c = record { bad = rw (← c.of.ensures.kind, c.in-Unresolved.is) }
 
-pub returns-then-kind-eq-SIZED : goal.returns-then-kind-eq-SIZED
+pub returns-in-Failed : goal.returns-in-Failed
 unfolding is_bad
-returns-then-kind-eq-SIZED c = record { bad = rw (c.size-size.ensures.size, sym c.kind-kind.ensures.kind ∙ c.if-kind-eq-SIZED.true) }
+returns-in-Failed c = record { bad = rw (← c.of.ensures.kind, c.size.ensures.size) (⊎_elim (λ e. rw e) (λ e. rw e) c.in-Failed.is) }
 
-pub returns : goal.returns
+pub returns-in-Sized : goal.returns-in-Sized
 unfolding is_bad
-returns c = record {
-  bad =
-      let not-sized = rw c.kind-kind.ensures.kind at c.if-kind-eq-SIZED.false in
-      let not-unresolved = rw c.kind-kind.ensures.kind at c.if-kind-eq-UNRESOLVED.false in
-      rw (c.size-size.ensures.size, ne_eqb _ _ not-sized, ne_eqb _ _ not-unresolved);
-}
+returns-in-Sized c = record { bad = rw (← c.of.ensures.kind, c.in-Sized.is, c.size-in-Sized.ensures.size) }

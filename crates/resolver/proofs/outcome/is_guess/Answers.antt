@@ -1,11 +1,9 @@
--- `resolver::outcome::is_guess` meets its contract: an outcome is a guess if its kind is 0 or its guess bit is set.
-use mathlib.Core.Path.{sym, ◌∙◌}
-use borrow.Author.Tests.{ne_eqb}
+use Rattle.resolver.proofs.OtherKinds.{not_unresolved}
 use Rattle.resolver.proofs.Words.{guess-by-kind}
 use Rattle.resolver.proofs.outcome.is_guess.Goals as goal
 
-pub returns-then-kind-eq-UNRESOLVED : goal.returns-then-kind-eq-UNRESOLVED
-returns-then-kind-eq-UNRESOLVED c = record { guess = rw (guess-by-kind, sym c.kind.ensures.kind ∙ c.if-kind-eq-UNRESOLVED.true) }
+pub returns-in-Unresolved : goal.returns-in-Unresolved
+returns-in-Unresolved c = record { guess = rw (guess-by-kind, ← c.of.ensures.kind, c.in-Unresolved.is) }
 
-pub returns : goal.returns
-returns c = record { guess = rw (guess-by-kind, ne_eqb _ _ (rw c.kind.ensures.kind at c.if-kind-eq-UNRESOLVED.false)) }
+pub returns-in_default : goal.returns-in_default
+returns-in_default c = record { guess = rw (guess-by-kind, ← c.of.ensures.kind, (not_unresolved _ c.in_default.not-Unresolved).0) }

@@ -1,13 +1,11 @@
--- `resolver::outcome::mark_guess` meets its contract: each answer rewrites with the test of the kind that led to it.
-use native.Mathlib.Omega.{arith}
-use borrow.Author.Tests.{le-leb, lt-leb}
+use Rattle.resolver.proofs.OtherKinds.{not_unresolved}
 use Rattle.resolver.specs.Passes.{marked_word}
 use Rattle.resolver.proofs.outcome.mark_guess.Goals as goal
 
-pub returns-then-kind-ge-FAILED : goal.returns-then-kind-ge-FAILED
+pub returns-in-Unresolved : goal.returns-in-Unresolved
 unfolding marked_word
-returns-then-kind-ge-FAILED c = record { marked = rw (← c.kind.ensures.kind, le-leb 1 c.kind.result (omega arith)) }
+returns-in-Unresolved c = record { marked = rw (← c.of.ensures.kind, c.in-Unresolved.is) }
 
-pub returns : goal.returns
+pub returns-in_default : goal.returns-in_default
 unfolding marked_word
-returns c = record { marked = rw (← c.kind.ensures.kind, lt-leb 1 c.kind.result (omega arith)) }
+returns-in_default c = record { marked = rw (← c.of.ensures.kind, (not_unresolved _ c.in_default.not-Unresolved).1) }
