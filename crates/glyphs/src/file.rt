@@ -1,7 +1,7 @@
 // The file that the program's argument names, read whole. It refuses a file that cannot be read, with the system's words on
 // standard error, and one that is longer than its room.
 use crate::TABLE;
-use crate::show::{complain, fail};
+use crate::show::{fail, say};
 use std::env::FillError;
 use std::io::{Read, Write};
 use std::rt::{Env, Files};
@@ -30,7 +30,7 @@ pub enum File {
 
 // Tells why a file was not read.
 fn unread<W: Write>(err: &mut W, path: &[u8], error: &io::Error) -> io::Result<File> {
-    complain(err, b"the table cannot be read: ", 0)?;
+    say(err, b"the table cannot be read: ")?;
     fail(err, path, error)?;
     Ok(File::Unread)
 }

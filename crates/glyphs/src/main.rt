@@ -22,9 +22,10 @@ mod show;
 mod table;
 
 use crate::file::File;
-use crate::show::{complain, part};
+use crate::matching::Table;
+use crate::show::{part, say};
 use crate::table::{LISTING, MOST_BYTES, MOST_WORDS};
-use listing::reading::{ReadAnswer, read_table};
+use listing::reading::{ReadError, read_table};
 use std::env::FillError;
 use std::io;
 use std::io::{Read, Write};
@@ -41,27 +42,10 @@ fn is_given<S: Env>(rt: &S, argument: usize) -> bool {
 fn table_in(room: &[u16], words: usize) -> &[u16]
     ensures { words ≤ length room.now → result.now ≡ take words room.now }
 {
-    if words <= room.len() {
-        return &room[0..words];
-    }
-    &room[0..0]
+    room.get(..words).unwrap_or(&[])
 }
 
-// Writes what is read in the lines of the input. The encodings are known of the example's own table alone.
-fn show_lines<R: Read, W: Write, E: Write>(
-    input: &mut R,
-    out: &mut W,
-    err: &mut E,
-    table: &[u16],
-    encoded: bool,
-) -> io::Result<()> {
-    if encoded {
-        rules::show(out, table)?;
-    }
-    input::show(input, out, err, table, encoded)
-}
-
-// Reads a table's listing, and then the lines under that table.
+// Reads a table's listing, and then the lines under that table. The encodings are known of the example's own table alone.
 fn with_listing<R: Read, W: Write, E: Write>(
     input: &mut R,
     out: &mut W,
@@ -70,17 +54,18 @@ fn with_listing<R: Read, W: Write, E: Write>(
     encoded: bool,
 ) -> io::Result<()> {
     let mut room = [0u16; MOST_WORDS];
-    let answer = read_table(text, &mut room);
-    match answer {
-        ReadAnswer::Read { words } => {
-            let table = table_in(&room, words as usize);
-            show_lines(input, out, err, table, encoded)
+    match read_table(text, &mut room) {
+        Ok(words) => {
+            let words = table_in(&room, words as usize);
+            if encoded {
+                rules::show(out, words)?;
+            }
+            input::show(input, out, err, Table { words, encoded })
         }
-        ReadAnswer::BadText { line } => refusal::bad_listing(err, text, line as usize),
-        ReadAnswer::NoRoom => complain(
+        Err(ReadError::BadText { line }) => refusal::bad_listing(err, text, line as usize),
+        Err(ReadError::NoRoom) => writeln!(
             err,
-            b"the table is refused, number 16: it takes more than % words\n",
-            MOST_WORDS,
+            "the table is refused, number 16: it takes more than {MOST_WORDS} words"
         ),
     }
 }
@@ -96,10 +81,9 @@ fn with_file<S: Env + Files, R: Read, W: Write, E: Write>(
     let found = file::read_named(rt, err, &mut text)?;
     match found {
         File::Whole { bytes } => with_listing(input, out, err, part(&text, 0, bytes), false),
-        File::Longer => complain(
+        File::Longer => writeln!(
             err,
-            b"the table is refused, number 15: it is longer than % bytes\n",
-            MOST_BYTES,
+            "the table is refused, number 15: it is longer than {MOST_BYTES} bytes"
         ),
         File::Unread => Ok(()),
     }
@@ -114,10 +98,9 @@ fn main(rt: HostRuntime) -> io::Result<()> {
     } else if !is_given(&rt, TABLE + 1) {
         with_file(&rt, &mut input, &mut out, &mut err)?;
     } else {
-        complain(
+        say(
             &mut err,
             b"wrong use: one table at most, as in glyphs TABLE <LINES\n",
-            0,
         )?;
     }
     out.flush()

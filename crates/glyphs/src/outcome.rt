@@ -1,110 +1,79 @@
 // Outcome words, guess + 2·kind + 8·size: a rule's size, if its values meet its constraint. It evaluates only a number, with a
 // minus or none: any other expression, a name or a sum, is a guess until the last pass, and the same number then.
-ghost use Rattle.std.specs.Prelude.{◌≤◌, length};
-
-use crate::rules::{TWO_BYTES, fits_of};
+use crate::rules::{Encoding, Width};
 
 // The word of a failed constraint; of a sized outcome but for its size; and what a size is multiplied by.
 pub const FAILED: u32 = 2;
 
-pub const SIZED: u32 = 6;
+const SIZED: u32 = 6;
 
 pub const SIZE_UNIT: u32 = 8;
 
-// How many numbers below zero a byte and two bytes hold, signed.
-const BYTE_HALF: u32 = 128;
-
-const TWO_BYTES_HALF: u32 = 32_768;
-
 // What any expression but a number turns out to be on the last pass.
-const OTHER: u32 = 300;
-
-// From here on a number fits no constraint, and its further digits do not matter.
-const LARGE: u32 = 100_000;
+const OTHER: i32 = 300;
 
 // What a digit more multiplies a number by.
-const TEN: u32 = 10;
+const TEN: u16 = 10;
 
-// A number, or what stands for any other expression: how far from zero it is, and whether below.
-#[derive(Clone, Copy)]
-pub struct Value {
-    pub number: bool,
-    pub negative: bool,
-    pub size: u32,
+// Whether guessing is allowed.
+#[derive(Clone, Copy, PartialEq, Eq)]
+pub enum Pass {
+    Guessing,
+    Last,
+}
+
+// The word of a rule that has no value yet.
+pub fn sized(encoding: Encoding) -> u32 {
+    SIZED + SIZE_UNIT * encoding.bits as u32
 }
 
 // The word of an outcome, after a value more.
-pub fn with_value(v: Value, rule: usize, last: bool, res: u32) -> u32 {
-    if res == FAILED {
+pub fn with_value(value: Option<i32>, encoding: Encoding, pass: Pass, outcome: u32) -> u32 {
+    if outcome == FAILED {
         return FAILED;
     }
-    if !v.number {
-        if !last {
-            return res - res % 2 + 1;
-        }
+    if value.is_none() && pass == Pass::Guessing {
+        return outcome - outcome % 2 + 1;
     }
-    if fits(v, fits_of(rule)) { res } else { FAILED }
+    if fits(value.unwrap_or(OTHER), encoding.fits) {
+        outcome
+    } else {
+        FAILED
+    }
 }
 
-// Whether a value fits so many signed bits: 8 hold -128 to 127, and 16 hold -32,768 to 32,767.
-fn fits(v: Value, bits: usize) -> bool {
-    let half = if bits == TWO_BYTES {
-        TWO_BYTES_HALF
-    } else {
-        BYTE_HALF
+// Whether a value fits a width. A rule that has none has no values.
+fn fits(value: i32, width: Option<Width>) -> bool {
+    match width {
+        Some(Width::Byte) => i8::try_from(value).is_ok(),
+        Some(Width::TwoBytes) => i16::try_from(value).is_ok(),
+        None => true,
+    }
+}
+
+// The value of an expression's text, if it is a number. Whitespace may stand between the minus and the digits.
+pub fn value_of(text: &[u8]) -> Option<i32> {
+    let (negative, digits) = match text {
+        [b'-', rest @ ..] => (true, rest),
+        _ => (false, text),
     };
-    if v.negative {
-        v.size <= half
-    } else {
-        v.size < half
-    }
+    let size = size_of(digits)? as i32;
+    Some(if negative { -size } else { size })
 }
 
-// Past a minus, if one stands at the start.
-fn over_sign(text: &[u8]) -> usize
-    ensures { result ≤ length text.now }
-{
-    match text {
-        [b'-', ..] => 1,
-        _ => 0,
-    }
-}
-
-// Whether a number goes on with this byte. Whitespace may stand between the minus and the digits.
-fn is_of_number(byte: u8) -> bool {
-    match byte {
-        b'0'..=b'9' => true,
-        _ => token::is_whitespace(byte),
-    }
-}
-
-// The value of an expression's text.
-pub fn value_of(text: &[u8]) -> Value {
-    let from = over_sign(text);
-    let mut size: u32 = 0;
-    for byte in &text[from..] {
-        if !is_of_number(*byte) {
-            return Value {
-                number: false,
-                negative: false,
-                size: OTHER,
-            };
-        }
-        size = with_digit(size, *byte);
-    }
-    Value {
-        number: true,
-        negative: 0 < from,
-        size,
-    }
-}
-
-// A number with a digit more. Whitespace changes nothing.
-fn with_digit(size: u32, byte: u8) -> u32 {
-    if size < LARGE {
-        if b'0' <= byte {
-            return size * TEN + (byte - b'0') as u32;
+// A number without its sign. One that is too large to hold counts as the largest, which fits no constraint either.
+fn size_of(digits: &[u8]) -> Option<u16> {
+    let mut size: u16 = 0;
+    for byte in digits {
+        match byte {
+            b'0'..=b'9' => {
+                size = size
+                    .saturating_mul(TEN)
+                    .saturating_add((byte - b'0') as u16);
+            }
+            _ if token::is_whitespace(*byte) => {}
+            _ => return None,
         }
     }
-    size
+    Some(size)
 }

@@ -3,9 +3,9 @@
 // arguments of the match there are still to come. Every step is guarded, so any words are walked safely.
 ghost use Rattle.std.specs.Prelude.{◌≡◌, ◌+◌, min, slice_index};
 
-use crate::outcome::{SIZE_UNIT, SIZED, value_of, with_value};
-use crate::rules::bits_of;
-use crate::show::{part, say, tell, wide};
+use crate::outcome::{Pass, sized, value_of, with_value};
+use crate::rules::Encoding;
+use crate::show::{part, say};
 use std::io;
 use std::io::Write;
 
@@ -33,18 +33,25 @@ const NESTED: usize = 1;
 // The greatest depth of a match, and how many depths there are.
 const DEEPEST: usize = 16;
 
-const DEPTHS: usize = 17;
+const DEPTHS: usize = DEEPEST + 1;
+
+// An answer's words, the line that they are of, and where it begins in the file.
+#[derive(Clone, Copy)]
+pub struct Answered<'a> {
+    pub words: &'a [u32; ROOM],
+    pub line: &'a [u8],
+    pub base: u32,
+}
 
 // A reading: its rule, and its outcome words on a guessing pass and on the last, so far, which mean something under the
-// example's own table alone. Then the next word, the depth of the match that it is in, and whether all is written.
+// example's own table alone. Then the next word, and the depth of the match that it is in, unless all is written.
 #[derive(Clone, Copy)]
 pub struct Reading {
     pub rule: usize,
-    pub guessing: u32,
-    pub last: u32,
+    guessing: u32,
+    last: u32,
     pub at: usize,
-    depth: usize,
-    whole: bool,
+    depth: Option<usize>,
 }
 
 // The word that stands so far after a place, or 0 past the end.
@@ -53,7 +60,7 @@ pub fn word(words: &[u32; ROOM], at: usize, after: usize) -> usize
 {
     if at < ROOM {
         if after < ROOM - at {
-            return wide(words[at + after]);
+            return words[at + after] as usize;
         }
     }
     0
@@ -63,167 +70,145 @@ pub fn word(words: &[u32; ROOM], at: usize, after: usize) -> usize
 fn past(at: usize, after: usize) -> usize
     ensures { result ≡ min (at + after) 4096 }
 {
-    if at < ROOM {
-        if after < ROOM - at {
-            return at + after;
-        }
-    }
-    ROOM
+    at.saturating_add(after).min(ROOM)
 }
 
 // Takes one of the arguments to come at a depth. False if there is none.
 fn take_one(to_come: &mut [usize; DEPTHS], depth: usize) -> bool {
-    if depth < DEPTHS {
-        let left = to_come[depth];
-        if 0 < left {
-            to_come[depth] = left - 1;
-            return true;
+    match to_come.get_mut(depth) {
+        Some(left) if 0 < *left => {
+            *left -= 1;
+            true
+        }
+        _ => false,
+    }
+}
+
+impl<'a> Answered<'a> {
+    fn word(self, at: usize, after: usize) -> usize {
+        word(self.words, at, after)
+    }
+
+    // An argument's text. Its place counts in the file, and the line begins there at the base: so it is cut out of the line by
+    // its place less the base, or nothing is if that is no part of the line.
+    fn text(self, at: usize) -> &'a [u8] {
+        let from = self.base as usize;
+        let start = self.word(at, START);
+        let end = self.word(at, END);
+        if from <= start && start <= end {
+            part(self.line, start - from, end - from)
+        } else {
+            &[]
         }
     }
-    false
-}
 
-// An argument's text. Its place counts in the file, and the line begins there at the base: so it is cut out of the line by its
-// place less the base, or nothing is if that is no part of the line.
-fn text_of<'a>(words: &[u32; ROOM], line: &'a [u8], base: u32, at: usize) -> &'a [u8] {
-    let from = wide(base);
-    let start = word(words, at, START);
-    let end = word(words, at, END);
-    if from <= start {
-        if start <= end {
-            return part(line, start - from, end - from);
-        }
+    // Writes it, and its place in the file: its start, and the end that is no part of it.
+    fn put_text<W: Write>(self, out: &mut W, at: usize) -> io::Result<()> {
+        let start = self.word(at, START);
+        let end = self.word(at, END);
+        say(out, b" {")?;
+        say(out, self.text(at))?;
+        write!(out, " at {start}..{end}")
     }
-    &line[0..0]
-}
 
-// Writes it, and its place in the file: its start, and the end that is no part of it.
-fn put_text<W: Write>(
-    out: &mut W,
-    words: &[u32; ROOM],
-    line: &[u8],
-    base: u32,
-    at: usize,
-) -> io::Result<()> {
-    say(out, b" {")?;
-    say(out, text_of(words, line, base, at))?;
-    tell(
-        out,
-        b" at %..%",
-        word(words, at, START),
-        word(words, at, END),
-        0,
-    )
-}
+    // Writes the reading that begins at a place, and returns it. An argument has three words and takes at most two turns,
+    // into it and out of it, so as many turns as words are enough.
+    pub fn show<W: Write>(self, out: &mut W, at: usize) -> io::Result<Reading> {
+        let mut to_come = [0usize; DEPTHS];
+        to_come[0] = self.word(at, COUNT);
+        let mut reading = self.begin(out, at)?;
+        for _ in 0..ROOM {
+            let Some(depth) = reading.depth else {
+                break;
+            };
+            reading = self.next(out, reading, depth, &mut to_come)?;
+        }
+        Ok(reading)
+    }
 
-impl Reading {
     // The reading that begins at a place, before its first argument.
-    fn new<W: Write>(out: &mut W, words: &[u32; ROOM], at: usize) -> io::Result<Self> {
-        let rule = word(words, at, 1);
-        tell(out, b"    %.%", word(words, at, 0), rule, 0)?;
-        let sized = SIZED + SIZE_UNIT * bits_of(rule) as u32;
+    fn begin<W: Write>(self, out: &mut W, at: usize) -> io::Result<Reading> {
+        let set = self.word(at, 0);
+        let rule = self.word(at, 1);
+        write!(out, "    {set}.{rule}")?;
+        let outcome = sized(Encoding::of(rule));
         Ok(Reading {
             rule,
-            guessing: sized,
-            last: sized,
+            guessing: outcome,
+            last: outcome,
             at: past(at, RULE),
-            depth: 0,
-            whole: false,
+            depth: Some(0),
         })
-    }
-
-    // Past an expression, whose value counts. (The example's nested rules have no parameters.)
-    fn over_expression<W: Write>(
-        mut self,
-        out: &mut W,
-        words: &[u32; ROOM],
-        line: &[u8],
-        base: u32,
-    ) -> io::Result<Self> {
-        let at = self.at;
-        put_text(out, words, line, base, at)?;
-        say(out, b"}")?;
-        let v = value_of(text_of(words, line, base, at));
-        self.guessing = with_value(v, self.rule, false, self.guessing);
-        self.last = with_value(v, self.rule, true, self.last);
-        self.at = past(at, ARGUMENT);
-        Ok(self)
-    }
-
-    // Into a nested argument's match: its text and place, its rule, and its own arguments to come.
-    fn into_match<W: Write>(
-        mut self,
-        out: &mut W,
-        words: &[u32; ROOM],
-        line: &[u8],
-        base: u32,
-        to_come: &mut [usize; DEPTHS],
-    ) -> io::Result<Self> {
-        let at = self.at;
-        let depth = self.depth;
-        put_text(out, words, line, base, at)?;
-        tell(
-            out,
-            b": %.%",
-            word(words, at, ARGUMENT),
-            word(words, at, ARGUMENT + 1),
-            0,
-        )?;
-        if depth < DEEPEST {
-            to_come[depth + 1] = word(words, at, ARGUMENT + COUNT);
-            self.depth = depth + 1;
-        }
-        self.at = past(at, ARGUMENT + RULE);
-        Ok(self)
-    }
-
-    // Out of a match that has no more arguments.
-    fn out_of_match<W: Write>(mut self, out: &mut W) -> io::Result<Self> {
-        if self.depth == 0 {
-            say(out, b"\n")?;
-            self.whole = true;
-            return Ok(self);
-        }
-        say(out, b"}")?;
-        self.depth -= 1;
-        Ok(self)
     }
 
     fn next<W: Write>(
         self,
         out: &mut W,
-        words: &[u32; ROOM],
-        line: &[u8],
-        base: u32,
+        reading: Reading,
+        depth: usize,
         to_come: &mut [usize; DEPTHS],
-    ) -> io::Result<Self> {
-        if !take_one(to_come, self.depth) {
-            return self.out_of_match(out);
+    ) -> io::Result<Reading> {
+        if !take_one(to_come, depth) {
+            return reading.out_of_match(out, depth);
         }
-        if word(words, self.at, 0) == NESTED {
-            return self.into_match(out, words, line, base, to_come);
+        if self.word(reading.at, 0) == NESTED {
+            return self.into_match(out, reading, depth, to_come);
         }
-        self.over_expression(out, words, line, base)
+        self.over_expression(out, reading)
     }
 
-    // Writes the reading that begins at a place, and returns it. An argument has three words and takes at most two turns,
-    // into it and out of it, so as many turns as words are enough.
-    pub fn show<W: Write>(
+    // Past an expression, whose value counts. (The example's nested rules have no parameters.)
+    fn over_expression<W: Write>(self, out: &mut W, mut reading: Reading) -> io::Result<Reading> {
+        let at = reading.at;
+        self.put_text(out, at)?;
+        say(out, b"}")?;
+        let value = value_of(self.text(at));
+        let encoding = Encoding::of(reading.rule);
+        reading.guessing = with_value(value, encoding, Pass::Guessing, reading.guessing);
+        reading.last = with_value(value, encoding, Pass::Last, reading.last);
+        reading.at = past(at, ARGUMENT);
+        Ok(reading)
+    }
+
+    // Into a nested argument's match: its text and place, its rule, and its own arguments to come.
+    fn into_match<W: Write>(
+        self,
         out: &mut W,
-        words: &[u32; ROOM],
-        line: &[u8],
-        base: u32,
-        at: usize,
-    ) -> io::Result<Self> {
-        let mut to_come = [0usize; DEPTHS];
-        to_come[0] = word(words, at, COUNT);
-        let mut r = Reading::new(out, words, at)?;
-        for _ in 0..ROOM {
-            r = r.next(out, words, line, base, &mut to_come)?;
-            if r.whole {
-                break;
-            }
+        mut reading: Reading,
+        depth: usize,
+        to_come: &mut [usize; DEPTHS],
+    ) -> io::Result<Reading> {
+        let at = reading.at;
+        let set = self.word(at, ARGUMENT);
+        let rule = self.word(at, ARGUMENT + 1);
+        self.put_text(out, at)?;
+        write!(out, ": {set}.{rule}")?;
+        if depth < DEEPEST {
+            to_come[depth + 1] = self.word(at, ARGUMENT + COUNT);
+            reading.depth = Some(depth + 1);
         }
-        Ok(r)
+        reading.at = past(at, ARGUMENT + RULE);
+        Ok(reading)
+    }
+}
+
+impl Reading {
+    // The outcome word of a pass.
+    pub fn outcome(self, pass: Pass) -> u32 {
+        match pass {
+            Pass::Guessing => self.guessing,
+            Pass::Last => self.last,
+        }
+    }
+
+    // Out of a match that has no more arguments.
+    fn out_of_match<W: Write>(mut self, out: &mut W, depth: usize) -> io::Result<Self> {
+        self.depth = depth.checked_sub(1);
+        if self.depth.is_some() {
+            say(out, b"}")?;
+        } else {
+            say(out, b"\n")?;
+        }
+        Ok(self)
     }
 }

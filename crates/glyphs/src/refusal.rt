@@ -2,7 +2,7 @@
 ghost use Rattle.std.specs.Prelude.{◌≡◌, ◌==◌, count_by};
 
 use crate::reading::ROOM;
-use crate::show::{complain, say, tell};
+use crate::show::say;
 use std::io;
 use std::io::Write;
 use trials::Answer;
@@ -10,41 +10,28 @@ use trials::Answer;
 // The longest line.
 const LONGEST: usize = 120;
 
-fn wide(byte: u8) -> usize {
-    byte as usize
-}
-
 // Writes why matching refused a line.
 pub fn put_refusal<W: Write>(out: &mut W, answer: Answer, line: &[u8]) -> io::Result<()> {
     say(out, b"    the build stops, ")?;
     match answer {
-        Answer::NoMatch { visits: _ } => say(out, b"number 1: no rule reads it\n"),
+        Answer::NoMatch { .. } => say(out, b"number 1: no rule reads it\n"),
         Answer::BadTable => say(out, b"number 2: bad table\n"),
         Answer::BadLine { place } => put_place(out, line, place as usize),
         Answer::BadSheet => say(out, b"number 4: bad sheet\n"),
         Answer::BadBudget => say(out, b"number 5: bad budget\n"),
         Answer::BadBase => say(out, b"number 19: the line begins too far on in the file\n"),
-        Answer::Spent { visits } => tell(
+        Answer::Spent { visits } => writeln!(
             out,
-            b"number 6: % visits are spent, and there is more to try\n",
-            visits as usize,
-            0,
-            0,
+            "number 6: {visits} visits are spent, and there is more to try"
         ),
-        Answer::TooDeep { visits: _ } => say(out, b"number 7: its rules nest deeper than 16\n"),
-        Answer::PoolFull { visits: _ } => say(out, b"number 8: more than 4,096 records are due\n"),
-        Answer::TooLong { visits: _, words } => tell(
+        Answer::TooDeep { .. } => say(out, b"number 7: its rules nest deeper than 16\n"),
+        Answer::PoolFull { .. } => say(out, b"number 8: more than 4,096 records are due\n"),
+        Answer::TooLong { words, .. } => writeln!(
             out,
-            b"number 9: its readings take % words, more than %\n",
-            words as usize,
-            ROOM,
-            0,
+            "number 9: its readings take {words} words, more than {ROOM}"
         ),
         // A match is no refusal, and is not lent here.
-        Answer::Matched {
-            visits: _,
-            words: _,
-        } => say(out, b"\n"),
+        Answer::Matched { .. } => say(out, b"\n"),
     }
 }
 
@@ -57,23 +44,14 @@ pub fn put_bad_line<W: Write>(out: &mut W, line: &[u8], place: usize) -> io::Res
 // The place counts from 0 in the line, and not in the file as an argument's does.
 fn put_place<W: Write>(out: &mut W, line: &[u8], place: usize) -> io::Result<()> {
     if LONGEST < line.len() {
-        tell(
+        return writeln!(
             out,
-            b"number 3: bad line at place %, longer than % bytes\n",
-            place,
-            LONGEST,
-            0,
-        )
-    } else if place < line.len() {
-        tell(
-            out,
-            b"number 3: bad line at place %, byte %\n",
-            place,
-            wide(line[place]),
-            0,
-        )
-    } else {
-        Ok(())
+            "number 3: bad line at place {place}, longer than {LONGEST} bytes"
+        );
+    }
+    match line.get(place) {
+        Some(byte) => writeln!(out, "number 3: bad line at place {place}, byte {byte}"),
+        None => Ok(()),
     }
 }
 
@@ -87,17 +65,11 @@ fn ended_lines(text: &[u8]) -> usize
 // Tells where a listing is bad. Reading counts its lines from 0, and gives the number of ended lines if only the end is
 // wrong; an editor counts from 1.
 pub fn bad_listing<W: Write>(err: &mut W, text: &[u8], line: usize) -> io::Result<()> {
+    say(err, b"the table is refused, number 15: its ")?;
     if line < ended_lines(text) {
-        complain(
-            err,
-            b"the table is refused, number 15: its line % is bad (the first is 1)\n",
-            line + 1,
-        )
+        let number = line + 1;
+        writeln!(err, "line {number} is bad (the first is 1)")
     } else {
-        complain(
-            err,
-            b"the table is refused, number 15: its end is bad, after % ended lines\n",
-            line,
-        )
+        writeln!(err, "end is bad, after {line} ended lines")
     }
 }

@@ -1,42 +1,63 @@
 // The example's rules, shown, and the encoding of each: its size in bits, and the constraint on its values.
 ghost use Rattle.std.specs.Prelude.{◌≤◌};
 
-use crate::show::{say, tell};
+use crate::show::say;
 use defs::ruledef::{Part, is_top_rule, part_at, parts_of, rule_count, ruleset_of};
-use std::io;
 use std::io::Write;
+use std::{fmt, io};
 
-// The sizes of an encoding: an operation, and a byte of values or two.
-const SHORT: usize = 16;
+// How many signed bits a value must fit.
+#[derive(Clone, Copy)]
+pub enum Width {
+    Byte,
+    TwoBytes,
+}
 
-const LONG: usize = 24;
+// A rule's size in bits, and what its values must fit, if it has any.
+#[derive(Clone, Copy)]
+pub struct Encoding {
+    pub bits: u8,
+    pub fits: Option<Width>,
+}
 
-// The constraints: how many signed bits a value must fit, or none, where a rule has no value.
-const NONE: usize = 0;
+// The sizes: an operation, and a byte of values or two.
+const SHORT: u8 = 16;
 
-const BYTE: usize = 8;
-
-pub const TWO_BYTES: usize = 16;
+const LONG: u8 = 24;
 
 // No table has more rules.
 const MOST_RULES: usize = 512;
 
-// The size in bits of a rule of ruleset 0.
-pub fn bits_of(rule: usize) -> usize
-    ensures small { result ≤ 24 }
-{
-    match rule {
-        1 | 3 | 4 => LONG,
-        _ => SHORT,
+impl Encoding {
+    // That of a rule of ruleset 0.
+    pub fn of(rule: usize) -> Encoding {
+        match rule {
+            1 => Encoding {
+                bits: LONG,
+                fits: Some(Width::TwoBytes),
+            },
+            3 => Encoding {
+                bits: LONG,
+                fits: None,
+            },
+            4 => Encoding {
+                bits: LONG,
+                fits: Some(Width::Byte),
+            },
+            _ => Encoding {
+                bits: SHORT,
+                fits: Some(Width::Byte),
+            },
+        }
     }
 }
 
-// Its constraint.
-pub fn fits_of(rule: usize) -> usize {
-    match rule {
-        1 => TWO_BYTES,
-        3 => NONE,
-        _ => BYTE,
+impl fmt::Display for Width {
+    fn fmt<W: fmt::Write>(&self, f: &mut fmt::Formatter<W>) -> fmt::Result {
+        match self {
+            Width::Byte => write!(f, "8 signed bits"),
+            Width::TwoBytes => write!(f, "16 signed bits"),
+        }
     }
 }
 
@@ -66,20 +87,20 @@ fn first_of(table: &[u16], first: u16, rule: u16) -> u16
 
 // Writes a rule: its ruleset, its number there, its pattern, and the encoding if it is a top one.
 fn show_rule<W: Write>(out: &mut W, table: &[u16], rule: u16, number: usize) -> io::Result<()> {
-    tell(out, b"    %.%  ", ruleset_of(table, rule), number, 0)?;
+    let set = ruleset_of(table, rule);
+    write!(out, "    {set}.{number}  ")?;
     put_pattern(out, table, rule)?;
     if is_top_rule(table, rule) {
-        put_encoding(out, number)?;
+        put_encoding(out, Encoding::of(number))?;
     }
     say(out, b"\n")
 }
 
-fn put_encoding<W: Write>(out: &mut W, rule: usize) -> io::Result<()> {
-    let fits = fits_of(rule);
-    if fits == NONE {
-        tell(out, b": % bits", bits_of(rule), 0, 0)
-    } else {
-        tell(out, b": % bits, fits % signed bits", bits_of(rule), fits, 0)
+fn put_encoding<W: Write>(out: &mut W, encoding: Encoding) -> io::Result<()> {
+    let bits = encoding.bits;
+    match encoding.fits {
+        Some(width) => write!(out, ": {bits} bits, fits {width}"),
+        None => write!(out, ": {bits} bits"),
     }
 }
 
@@ -96,6 +117,6 @@ fn put_part<W: Write>(out: &mut W, part: Part) -> io::Result<()> {
         Part::Exact(byte) => say(out, &[byte]),
         Part::Whitespace => say(out, b" "),
         Part::Expression => say(out, b"{value}"),
-        Part::Nested(set) => tell(out, b"{ruleset %}", set, 0, 0),
+        Part::Nested(set) => write!(out, "{{ruleset {set}}}"),
     }
 }

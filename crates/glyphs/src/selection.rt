@@ -1,89 +1,85 @@
 // Size selection on the one or two readings of a line under the example's table.
-use crate::outcome::{FAILED, SIZE_UNIT};
+use crate::outcome::{FAILED, Pass, SIZE_UNIT};
 use crate::reading::Reading;
-use crate::rules::bits_of;
-use crate::show::{say, tell};
-use resolver::instruction::{Selection, resolve_encoding};
+use crate::rules::Encoding;
+use crate::show::say;
+use resolver::instruction::{SelectError, resolve_encoding};
 use std::io;
 use std::io::Write;
 
 // The most readings that a line has under this table.
 const MOST: usize = 2;
 
-// How many readings there are, their rules, and their outcome words. If there is one, it stands for the other too.
-#[derive(Clone, Copy)]
-struct Outcomes {
-    count: usize,
-    rule: usize,
-    other: usize,
-    first: u32,
-    second: u32,
-}
-
 // Writes an outcome.
 fn put_outcome<W: Write>(out: &mut W, word: u32) -> io::Result<()> {
+    let size = word / SIZE_UNIT;
     if word == FAILED {
-        return say(out, b" fails");
-    }
-    let size = (word / SIZE_UNIT) as usize;
-    if word % 2 == 1 {
-        tell(out, b" guess of % bits", size, 0, 0)
+        write!(out, " fails")
+    } else if word % 2 == 1 {
+        write!(out, " guess of {size} bits")
     } else {
-        tell(out, b" % bits", size, 0, 0)
+        write!(out, " {size} bits")
     }
 }
 
 // Writes the rules that are chosen, all of ruleset 0, and the size that they share.
-fn put_choice<W: Write>(out: &mut W, o: Outcomes, chosen: u16, count: usize) -> io::Result<()> {
+fn put_choice<W: Write>(
+    out: &mut W,
+    rule: usize,
+    other: usize,
+    chosen: u16,
+    count: usize,
+) -> io::Result<()> {
     if count == MOST {
-        return tell(
-            out,
-            b" -> 0.% and 0.%, % bits\n",
-            o.rule,
-            o.other,
-            bits_of(o.rule),
-        );
+        let bits = Encoding::of(rule).bits;
+        return writeln!(out, " -> 0.{rule} and 0.{other}, {bits} bits");
     }
-    let rule = if chosen == 0 { o.rule } else { o.other };
-    tell(out, b" -> 0.%, % bits\n", rule, bits_of(rule), 0)
+    let one = if chosen == 0 { rule } else { other };
+    let bits = Encoding::of(one).bits;
+    writeln!(out, " -> 0.{one}, {bits} bits")
 }
 
 // Writes why none is chosen. On a guessing pass there is another pass to come.
-fn put_none<W: Write>(out: &mut W, answer: Selection, last: bool) -> io::Result<()> {
+fn put_none<W: Write>(out: &mut W, error: SelectError, pass: Pass) -> io::Result<()> {
     say(out, b" -> ")?;
-    if last {
+    if pass == Pass::Last {
         say(out, b"the build stops, ")?;
     }
-    match answer {
-        Selection::NoneResolved => say(out, b"number 11: none resolved\n"),
-        Selection::NoneKnown => say(out, b"number 12: none known\n"),
-        Selection::Tied { count } => tell(out, b"number 13: % tied\n", count, 0, 0),
+    match error {
+        SelectError::NoneResolved => say(out, b"number 11: none resolved\n"),
+        SelectError::NoneKnown => say(out, b"number 12: none known\n"),
+        SelectError::Tied { count } => writeln!(out, "number 13: {count} tied"),
         _ => say(out, b"none chosen\n"),
     }
 }
 
-// A pass: the readings' outcomes, and which are chosen. False if none is.
-fn pass<W: Write>(out: &mut W, o: Outcomes, last: bool) -> io::Result<bool> {
-    let count = o.count;
-    put_outcome(out, o.first)?;
+// A pass over so many readings, of which the first and the latest are lent: their outcomes, and which are chosen. False if none
+// is.
+fn try_pass<W: Write>(
+    out: &mut W,
+    first: Reading,
+    latest: Reading,
+    count: usize,
+    pass: Pass,
+) -> io::Result<bool> {
+    let mut words = [first.outcome(pass), latest.outcome(pass)];
+    put_outcome(out, words[0])?;
     if count == MOST {
         say(out, b" |")?;
-        put_outcome(out, o.second)?;
+        put_outcome(out, words[1])?;
     }
     if MOST < count {
-        tell(out, b" -> none is chosen among % readings\n", count, 0, 0)?;
+        writeln!(out, " -> none is chosen among {count} readings")?;
         return Ok(false);
     }
-    let mut words = [o.first, o.second];
     let mut chosen = [0u16; MOST];
-    let answer = resolve_encoding(&mut words[0..count], last, &mut chosen);
-    match answer {
-        Selection::Chosen { count } => {
-            put_choice(out, o, chosen[0], count)?;
+    match resolve_encoding(&mut words[..count], pass == Pass::Last, &mut chosen) {
+        Ok(count) => {
+            put_choice(out, first.rule, latest.rule, chosen[0], count)?;
             Ok(true)
         }
-        _ => {
-            put_none(out, answer, last)?;
+        Err(error) => {
+            put_none(out, error, pass)?;
             Ok(false)
         }
     }
@@ -93,20 +89,11 @@ fn pass<W: Write>(out: &mut W, o: Outcomes, last: bool) -> io::Result<bool> {
 pub fn choose<W: Write>(
     out: &mut W,
     first: Reading,
-    second: Reading,
+    latest: Reading,
     count: usize,
 ) -> io::Result<bool> {
-    let mut o = Outcomes {
-        count,
-        rule: first.rule,
-        other: second.rule,
-        first: first.guessing,
-        second: second.guessing,
-    };
     say(out, b"    guessing pass:")?;
-    pass(out, o, false)?;
-    o.first = first.last;
-    o.second = second.last;
+    try_pass(out, first, latest, count, Pass::Guessing)?;
     say(out, b"    last pass:    ")?;
-    pass(out, o, true)
+    try_pass(out, first, latest, count, Pass::Last)
 }

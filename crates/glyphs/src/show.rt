@@ -1,4 +1,4 @@
-// Parts of a text, and what is written: to the output, or to standard error what refuses the whole run.
+// Parts of a text, and what refuses the whole run, on standard error.
 ghost use Rattle.std.specs.Prelude.{◌≡◌, ◌-◌, ◌<◌, ◌≤◌, [], length, take, drop, OnOk};
 ghost use Rattle.std.specs.Io.KnownBytes.{Appends};
 
@@ -16,34 +16,6 @@ pub fn say<W: Write>(out: &mut W, text: &[u8]) -> io::Result<()>
     ensures { OnOk result (Appends (W.contents out.old) (W.contents out.new) text.now) }
 {
     out.write_all(text)
-}
-
-// Writes a text, with a number for each `%` in it, in turn.
-pub fn tell<W: Write>(
-    out: &mut W,
-    text: &[u8],
-    first: usize,
-    second: usize,
-    third: usize,
-) -> io::Result<()> {
-    let mut next = first;
-    let mut then = second;
-    let mut from: usize = 0;
-    for (at, byte) in text.iter().enumerate() {
-        if *byte == b'%' {
-            say(out, part(text, from, at))?;
-            write!(out, "{next}")?;
-            next = then;
-            then = third;
-            from = at + 1;
-        }
-    }
-    say(out, part(text, from, text.len()))
-}
-
-// Tells on standard error why no line is read.
-pub fn complain<W: Write>(err: &mut W, text: &[u8], number: usize) -> io::Result<()> {
-    tell(err, text, number, 0, 0)
 }
 
 // Tells on standard error what failed, and why in the system's words.
@@ -69,16 +41,5 @@ pub fn part(text: &[u8], start: usize, end: usize) -> &[u8]
     ensures crossed { end < start → result.now ≡ [] }
     ensures past_end { length text.now < end → result.now ≡ [] }
 {
-    if start <= end {
-        if end <= text.len() {
-            return &text[start..end];
-        }
-    }
-    &text[0..0]
-}
-
-pub fn wide(word: u32) -> usize
-    ensures { result ≡ word }
-{
-    word as usize
+    text.get(start..end).unwrap_or(&[])
 }
