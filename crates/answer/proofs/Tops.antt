@@ -1,5 +1,6 @@
 -- The matches among the first records, record by record: an argument or a deeper match adds none, a match of depth 0
 -- itself. The matches of the records so far are the first of all (`the_rest`), so what is known of all is known of them.
+use Rattle.std.specs.Prelude.{Some}
 use mathlib.Core.Path.{◌≡◌, refl, sym, ap, subst, ◌∙◌}
 use mathlib.Core.List.Memᴰ
 use mathlib.Core.List.{List, [], ◌∷◌, ◌++◌, map, map-append, append-nil, Memᴰ}
@@ -50,18 +51,18 @@ module _ (store : List ℕ) (used : ℕ) where
           (ap (λ (n : ℕ). take n (entries store used)) (add-one i) ∙ take-suc (entries store used) i (argued none) (omega (arith, entries-length store used stored)))
           ∙ tops-append (take i (entries store used)) (get_or (entries store used) i (argued none) ∷ [])
 
-      pub none_here : (depth_in (decode (get_or store i 0)) ≡ 0 → ⊥) → trees_to store used (i + 1) ≡ trees_to store used i
+      pub none_here : (depth_in (decode (get_or store i 0)) ≡ Some 0 → ⊥) → trees_to store used (i + 1) ≡ trees_to store used i
       unfolding gathered
       none_here ne =
           next
-          ∙ ap (λ (l : List Match). trees_to store used i ++ map tree l) (nothing-here store used stored i h refl (digits (get_or store i 0)) 0 (omega arith) ne [])
+          ∙ ap (λ (l : List Match). trees_to store used i ++ map tree l) (nothing-here store used stored i h refl (digits (get_or store i 0)) 0 ne [])
           ∙ append-nil (trees_to store used i)
 
-      module _ (top : depth_in (decode (get_or store i 0)) ≡ 0) where
+      module _ (top : depth_in (decode (get_or store i 0)) ≡ Some 0) where
         pub one-here : trees_to store used (i + 1) ≡ trees_to store used i ++ (tree_at (entries store used) i ∷ [])
         unfolding gathered
         one-here =
-            let (e, g) = something-here store used stored i h refl (digits (get_or store i 0)) 0 (omega arith) top [] in
+            let (e, g) = something-here store used stored i h refl (digits (get_or store i 0)) 0 top [] in
             next ∙ ap (λ (l : List Match). trees_to store used i ++ map tree l) g
 
         among : Memᴰ (tree_at (entries store used) i) (trees_in store used)
@@ -75,7 +76,7 @@ module _ (store : List ℕ) (used : ℕ) where
 
         -- the count that its record has is its own
         pub own-count : (t : List ℕ) → Counted (scene_of t [] []) (log_of store used) → {n : ℕ} → n ≡ count_in (decode (get_or store i 0)) → n ≡ exact_count (scene_of t [] []) (tree_at (entries store used) i)
-        own-count t counted e = e ∙ count-read (scene_of t [] []) store used stored counted i h refl (λ q. omega (arith, top))
+        own-count t counted e = e ∙ count-read (scene_of t [] []) store used stored counted i h refl top
 
         module _ (t : List ℕ) (bounded : Bounded t store used) where
           pub few_words : length (tree_words (tree_at (entries store used) i)) ≤ 12288

@@ -1,5 +1,6 @@
 -- The trees written one after another. After the records so far the buffer has the words of those of their matches that
 -- have the greatest count; the words of all of them fit, so those of the next one do.
+use Rattle.std.specs.Prelude.{Some}
 use mathlib.Core.Path.{◌≡◌, refl, sym, ap, ◌∙◌}
 use mathlib.Core.List.{List, [], ◌∷◌, ◌++◌, map, map-append}
 use Prim.Native.Nat.{ℕ, ◌+◌, ◌≤◌, ◌<◌}
@@ -107,7 +108,7 @@ module _ (t store : List ℕ) (used n base : ℕ) where
       all-written h = w.put ∙ ap (λ (ts : List Tree). put_after from (words ts) buffer) (all-passed store used stored i h)
 
       module _ (h : i < used) where
-        pub none_more : (depth_in (decode (get_or store i 0)) ≡ 0 → ⊥) → Writing buffer from (i + 1) answer at
+        pub none_more : (depth_in (decode (get_or store i 0)) ≡ Some 0 → ⊥) → Writing buffer from (i + 1) answer at
         none_more ne = record {
           within = omega arith;
           room = w.room;
@@ -115,7 +116,7 @@ module _ (t store : List ℕ) (used n base : ℕ) where
           put = w.put ∙ ap (λ (ts : List Tree). put_after from (words ts) buffer) (sym (none_here store used stored i h ne));
         }
 
-        module _ (top : depth_in (decode (get_or store i 0)) ≡ 0) where
+        module _ (top : depth_in (decode (get_or store i 0)) ≡ Some 0) where
           pub not_written : (exact_count s (tree_at (entries store used) i) ≡ n → ⊥) → Writing buffer from (i + 1) answer at
           not_written ne =
               let same : with_count s n (trees_to store used (i + 1)) ≡ with_count s n (trees_to store used i) =

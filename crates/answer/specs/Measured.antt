@@ -1,5 +1,5 @@
 -- The matches of a call, and the measure of their answer.
-use Rattle.std.specs.Prelude.{◌≡◌, ℕ, ◌≤◌, ◌<◌, length, take, get_or}
+use Rattle.std.specs.Prelude.{Some, ◌≡◌, ℕ, ◌≤◌, ◌<◌, length, take, get_or}
 use mathlib.Core.List.{List, [], map, Memᴰ}
 use Rattle.readings.specs.Tree.{Tree, moved}
 use Rattle.readings.specs.Scene.{scene_of}
@@ -42,5 +42,5 @@ pub record OneMore (t store : List ℕ) (used m : ℕ) (found : Measure) : Type 
   pub counted : Counted (scene_of t [] []) (log_of store used)
   pub bounded : Bounded t store used
   pub below : m < used
-  pub top : depth_in (decode (get_or store m 0)) ≡ 0
+  pub top : depth_in (decode (get_or store m 0)) ≡ Some 0
   pub is : found ≡ measured t (trees_to store used m)

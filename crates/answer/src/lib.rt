@@ -40,11 +40,8 @@ pub fn measure_answer(table: &[u16], store: &[usize], used: usize) -> Measure
         greatest: 0,
         words: HEAD,
     };
-    let mut i: usize = 0;
-    while i < used {
-        let m = i;
-        i += 1;
-        if pool::depth_at(store, m) == TOP {
+    for m in 0..used {
+        if pool::depth_at(store, m) == Some(TOP) {
             found = add_match(table, store, used, m, found);
         }
     }
@@ -99,11 +96,8 @@ pub fn write_answer(
     answer[0] = matches as u32;
     answer[1] = greatest as u32;
     let mut at: usize = HEAD;
-    let mut i: usize = 0;
-    while i < used {
-        let m = i;
-        i += 1;
-        if pool::depth_at(store, m) == TOP {
+    for m in 0..used {
+        if pool::depth_at(store, m) == Some(TOP) {
             let count = pool::count_at(store, m);
             if count == greatest {
                 at = words::write_tree(store, used, m, base, answer, at);

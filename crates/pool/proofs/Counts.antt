@@ -1,4 +1,5 @@
 -- The counts of a log that grows: those of the records that were there stay, and one record more is counted if its own is.
+use Rattle.std.specs.Prelude.{Some}
 use mathlib.Core.Path.{◌≡◌, refl, sym, ap, subst, ◌∙◌}
 use mathlib.Core.Logic.{⊎_elim}
 use mathlib.Core.List.{List, [], ◌∷◌, ◌++◌}
@@ -16,6 +17,7 @@ use Rattle.pool.specs.declared.Record.TheVariants.{Kept, Completed}
 use Rattle.pool.specs.Log.{decode, log_of, count_in, depth_in, Digits, nothing}
 use Rattle.pool.specs.Meaning.{Chain, none, Entry, argued, unwind, chain_at, tree_at, tree_in, linked, entry_of, meanings, Stored, entries}
 use Rattle.pool.specs.Counted.{so_far, TakesLast, CountedTo, first, after, CountOf, Counted}
+use Rattle.plain.proofs.Options.{none-ne-some}
 use Rattle.pool.proofs.Words.{log-length, log-at, digits}
 use Rattle.pool.proofs.Meanings.{chain-later, chain-kept, entry_read}
 
@@ -79,7 +81,7 @@ module _ (s : Scene) where
   -- ---- the count of a match, read from its record
 
   module _ (store : List ℕ) (used : ℕ) (stored : Stored store used) (counted : Counted s (log_of store used)) (m : ℕ) (below : m < used) where
-    pub count-read : {x : Record} → x ≡ decode (get_or store m 0) → (depth_in x ≡ 32 → ⊥) → count_in x ≡ exact_count s (tree_at (entries store used) m)
+    pub count-read : {x : Record} → x ≡ decode (get_or store m 0) → {d : ℕ} → depth_in x ≡ Some d → count_in x ≡ exact_count s (tree_at (entries store used) m)
     unfolding tree_at
     count-read {x} is match = go x refl
       where
@@ -93,7 +95,7 @@ module _ (s : Scene) where
         read = entry_read store used stored m below is (subst Digits (sym is) (digits (get_or store m 0)))
 
         go : (y : Record) → x ≡ y → count_in x ≡ exact_count s (tree_in (get_or (entries store used) m (argued none)))
-        go (Kept a p n) e = absurd (match (ap depth_in e))
+        go (Kept a p n) e = absurd (none-ne-some _ (sym (ap depth_in e) ∙ match))
         go (Completed d r k a c n) e = ap count_in e ∙ (subst (CountOf s (log_of store used) m) e own).0 ∙ ap (λ (z : Entry). exact_count s (tree_in z)) (sym (read ∙ ap (entry_of (entries store used)) e))
 
   -- ---- no choice is left

@@ -4,3 +4,4 @@ pub mod Gathers
 pub mod Tight
 pub mod Counts
 pub mod Passing
+pub mod Depths

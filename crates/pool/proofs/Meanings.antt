@@ -1,5 +1,6 @@
 -- Reading a log that grows. What a record means is fixed by the records before it: so it stays as the log grows, and if all
 -- links are to earlier records, each record means what its links say in the whole log (`entry_at`).
+use Rattle.std.specs.Prelude.{Some, None}
 use mathlib.Core.Path.{◌≡◌, refl, sym, ap, subst, ◌∙◌}
 use mathlib.Core.Bool.{Bool, true, false}
 use mathlib.Core.Logic.{⊎_elim}
@@ -17,7 +18,6 @@ use Rattle.pool.specs.declared.ArgumentKind.TheVariants.{Expr, Nested}
 use Rattle.pool.specs.declared.Argument.{Argument}
 use Rattle.pool.specs.declared.Record.{Record}
 use Rattle.pool.specs.declared.Record.TheVariants.{Kept, Completed}
-use Rattle.pool.specs.declared.Last.TheVariants.{First, After}
 use Rattle.pool.specs.declared.Pool.{Pool}
 use Rattle.pool.specs.Log.{decode, log_of, nothing, Added, ArgumentDigits, MatchFits, Digits}
 use Rattle.pool.specs.Meaning.{Chain, Entry, argued, completed, chain_at, tree_at, linked, entry_of, meaning, meanings, gathered_of, gathered, InnerEarlier, Links, Earlier, Stored, entries, head_of, HeadAt, last_of, last_in, LastAt, chain_in, tree_in}
@@ -180,7 +180,7 @@ module _ (store : List ℕ) (used : ℕ) (stored : Stored store used) (i : ℕ) 
       }
 
   module _ (n : ℕ) (next : n ≡ suc i) where
-    pub last-kept : {a : Argument} {p c : ℕ} → x ≡ Kept a p c → LastAt store used n (After a p)
+    pub last-kept : {a : Argument} {p c : ℕ} → x ≡ Kept a p c → LastAt store used n (Some (a, p))
     unfolding chain_at last_in
     last-kept {a} {p} {c} y =
         let f : ArgumentDigits a p c = subst Digits y digits in
@@ -202,14 +202,14 @@ module _ (store : List ℕ) (used : ℕ) (stored : Stored store used) (i : ℕ) 
         inner-later Expr l = tt
         inner-later (Nested m) l = omega (arith, next)
 
-    pub last-completed : {d r k a e c : ℕ} → x ≡ Completed d r k a e c → LastAt store used n First
+    pub last-completed : {d r k a e c : ℕ} → x ≡ Completed d r k a e c → LastAt store used n None
     unfolding chain_at last_in
     last-completed y = record {
       is = ap last_of (sym y ∙ is) ∙ sym (ap (last_in store) next);
       lasts = record { means = ap (chain_at es) next ∙ ap chain_in (entry_read ∙ ap (entry_of es) y); before = tt };
     }
 
-pub last_none : (store : List ℕ) (used n : ℕ) → n ≡ 0 → LastAt store used n First
+pub last_none : (store : List ℕ) (used n : ℕ) → n ≡ 0 → LastAt store used n None
 unfolding chain_at last_in
 last_none store used n z = record {
   is = sym (ap (last_in store) z);

@@ -1,4 +1,5 @@
 -- A record written is the record read: each digit of a word comes out by one division by a numeral.
+use Rattle.std.specs.Prelude.{Some, None}
 use mathlib.Core.Path.{◌≡◌, refl, sym, ap, ◌∙◌}
 use mathlib.Core.Bool.{Bool, true, false}
 use mathlib.Core.List.{List, [], ◌∷◌, ◌++◌, map, map-append}
@@ -16,7 +17,6 @@ use Rattle.pool.specs.declared.Argument.{Argument}
 use Rattle.pool.specs.declared.Record.{Record}
 use Rattle.pool.specs.declared.Record.TheVariants.{Kept, Completed}
 use Rattle.pool.specs.declared.Pool.{Pool}
-use Rattle.pool.specs.declared.Room.TheVariants.{Taken, Full}
 use Rattle.pool.specs.Log.{code_of, kind_of, argument_of, match_of, decode, log_of, ArgumentFits, MatchFits, Fits, encode, taken, TakenBy, Digits, nothing}
 
 -- ---- kinds
@@ -135,12 +135,12 @@ decoded (Kept a p n) f = decode-argument a p n (code_of a.kind) refl f
 decoded (Completed d r k a e n) f = decode-match d r k a e n f
 
 module _ (store : List ℕ) (used : ℕ) (x : Record) where
-  pub taken-full : used ≡ 4096 → TakenBy used store store x Full
+  pub taken-full : used ≡ 4096 → TakenBy used store store x None
   unfolding taken
   taken-full e = record { is = rw (taken, eq-eqb used 4096 e); log = e }
 
   pub taken_next : length store ≡ 4096 → used ≤ 4096 → (used ≡ 4096 → ⊥) → Fits x → (w : ℕ) → w ≡ encode x → (p : Pool) → p ≡ record { used = used + 1 }
-      → TakenBy used store (set store used w) x (Taken p)
+      → TakenBy used store (set store used w) x (Some p)
   unfolding taken
   taken_next sized few more f w e p next = record {
     is = rw (taken, ne_eqb used 4096 more, e, next);

@@ -1,5 +1,5 @@
 -- The pool's log: what the first words of the lent store say, one record a word.
-use Rattle.std.specs.Prelude.{◌≡◌, List, [], ◌∷◌, ◌++◌, map, ℕ, zero, suc, ◌+◌, ◌*◌, ◌/◌, ◌%◌, ◌<◌, eqb, take, set}
+use Rattle.std.specs.Prelude.{◌≡◌, Option, Some, None, List, [], ◌∷◌, ◌++◌, map, ℕ, zero, suc, ◌+◌, ◌*◌, ◌/◌, ◌%◌, ◌<◌, eqb, take, set}
 use Rattle.plain.specs.Choice.{select}
 use Rattle.readings.specs.Plan.{room}
 use Rattle.pool.specs.declared.ArgumentKind.{ArgumentKind}
@@ -8,8 +8,6 @@ use Rattle.pool.specs.declared.Argument.{Argument}
 use Rattle.pool.specs.declared.Record.{Record}
 use Rattle.pool.specs.declared.Record.TheVariants.{Kept, Completed}
 use Rattle.pool.specs.declared.Pool.{Pool}
-use Rattle.pool.specs.declared.Room.{Room}
-use Rattle.pool.specs.declared.Room.TheVariants.{Taken, Full}
 
 -- what number stands for a kind, and what kind a number stands for
 abbrev pub code_of : ArgumentKind → ℕ
@@ -75,8 +73,8 @@ encode (Kept a p n) = 2 * (p + 8192 * (a.start + 128 * (a.end + 128 * (n + 128 *
 encode (Completed d r k a e n) = 1 + 2 * (d + 32 * (r + 32 * (k + 512 * (a + 8192 * (n + 128 * e)))))
 
 -- the next word of the store, unless there is no room
-unfoldable pub taken : ℕ → List ℕ → Record → List ℕ × Room
-taken used store x = select (eqb used room) (store, Full) (set store used (encode x), Taken (record { used = used + 1 }))
+unfoldable pub taken : ℕ → List ℕ → Record → List ℕ × Option Pool
+taken used store x = select (eqb used room) (store, None) (set store used (encode x), Some (record { used = used + 1 }))
 
 -- a record is taken, the next of the log, or there is no room
 pub record Added (used : ℕ) (store store' : List ℕ) (x : Record) (p : Pool) : Type 0 where
@@ -84,12 +82,12 @@ pub record Added (used : ℕ) (store store' : List ℕ) (x : Record) (p : Pool) 
   pub counted : p.used ≡ used + 1
   pub grown : log_of store' (used + 1) ≡ log_of store used ++ (x ∷ [])
 
-abbrev pub TakenAs : Room → ℕ → List ℕ → List ℕ → Record → Type 0
-TakenAs (Taken p) used store store' x = Added used store store' x p
-TakenAs Full used store store' x = used ≡ room
+abbrev pub TakenAs : Option Pool → ℕ → List ℕ → List ℕ → Record → Type 0
+TakenAs (Some p) used store store' x = Added used store store' x p
+TakenAs None used store store' x = used ≡ room
 
 -- what taking a record leaves: store and answer, and what that is to the log
-pub record TakenBy (used : ℕ) (store store' : List ℕ) (x : Record) (r : Room) : Type 0 where
+pub record TakenBy (used : ℕ) (store store' : List ℕ) (x : Record) (r : Option Pool) : Type 0 where
   pub is : (store', r) ≡ taken used store x
   pub log : TakenAs r used store store' x
 
@@ -108,10 +106,10 @@ abbrev pub Digits : Record → Type 0
 Digits (Kept a p n) = ArgumentDigits a p n
 Digits (Completed d r k a e n) = MatchFits d r k a e n
 
--- a match's depth; 32 for an argument
-abbrev pub depth_in : Record → ℕ
-depth_in (Kept a p n) = 32
-depth_in (Completed d r k a e n) = d
+-- a match's depth; an argument has none
+abbrev pub depth_in : Record → Option ℕ
+depth_in (Kept a p n) = None
+depth_in (Completed d r k a e n) = Some d
 
 -- the count that a record has
 abbrev pub count_in : Record → ℕ

@@ -1,6 +1,6 @@
 -- What the pool's records mean: arguments up to one, and trees. A record says what it does through those before it, so a
 -- log is read from its start, and what a record means never changes.
-use Rattle.std.specs.Prelude.{List, [], ◌∷◌, ◌++◌, ℕ, zero, suc, ◌≤◌, ◌<◌, ◌≡◌, eqb, length, get_or}
+use Rattle.std.specs.Prelude.{Option, Some, None, List, [], ◌∷◌, ◌++◌, ℕ, zero, suc, ◌≤◌, ◌<◌, ◌≡◌, eqb, length, get_or}
 use Rattle.plain.specs.Choice.{select}
 use Rattle.readings.specs.Tree.{Tree, node, Args, end, expr, nest}
 use Rattle.readings.specs.Plan.{room}
@@ -10,8 +10,6 @@ use Rattle.pool.specs.declared.ArgumentKind.{ArgumentKind}
 use Rattle.pool.specs.declared.ArgumentKind.TheVariants.{Expr, Nested}
 use Rattle.pool.specs.declared.Argument.{Argument}
 use Rattle.pool.specs.declared.Head.{Head}
-use Rattle.pool.specs.declared.Last.{Last}
-use Rattle.pool.specs.declared.Last.TheVariants.{First, After}
 use Rattle.pool.specs.declared.Record.{Record}
 use Rattle.pool.specs.declared.Record.TheVariants.{Kept, Completed}
 
@@ -116,10 +114,10 @@ pub record HeadAt (store : List ℕ) (used m : ℕ) (h : Head) : Type 0 where
   pub is : h ≡ head_of (decode (get_or store m 0))
   pub heads : Heads (entries store used) m h
 
--- the arguments up to a last one, as that and the number of the one before
-abbrev pub last_means : List Entry → Last → Chain
-last_means es First = none
-last_means es (After a p) = linked es (chain_at es p) a.start a.end a.kind
+-- the arguments up to a last one, as that and the number of the one before, if there is one
+abbrev pub last_means : List Entry → Option (Argument × ℕ) → Chain
+last_means es None = none
+last_means es (Some (a, p)) = linked es (chain_at es p) a.start a.end a.kind
 
 pub record Before (n : ℕ) (a : Argument) (p : ℕ) : Type 0 where
   pub earlier : p < n
@@ -127,23 +125,23 @@ pub record Before (n : ℕ) (a : Argument) (p : ℕ) : Type 0 where
   pub start : a.start < 128
   pub end : a.end < 128
 
-abbrev pub LastBefore : ℕ → Last → Type 0
-LastBefore n First = Unit {0}
-LastBefore n (After a p) = Before n a p
+abbrev pub LastBefore : ℕ → Option (Argument × ℕ) → Type 0
+LastBefore n None = Unit {0}
+LastBefore n (Some (a, p)) = Before n a p
 
-pub record Lasts (es : List Entry) (n : ℕ) (l : Last) : Type 0 where
+pub record Lasts (es : List Entry) (n : ℕ) (l : Option (Argument × ℕ)) : Type 0 where
   pub means : chain_at es n ≡ last_means es l
   pub before : LastBefore n l
 
 -- what the records say; a match reads as no argument
-abbrev pub last_of : Record → Last
-last_of (Kept a p n) = After a p
-last_of (Completed d r k a e n) = First
+abbrev pub last_of : Record → Option (Argument × ℕ)
+last_of (Kept a p n) = Some (a, p)
+last_of (Completed d r k a e n) = None
 
-unfoldable pub last_in : List ℕ → ℕ → Last
-last_in store zero = First
+unfoldable pub last_in : List ℕ → ℕ → Option (Argument × ℕ)
+last_in store zero = None
 last_in store (suc i) = last_of (decode (get_or store i 0))
 
-pub record LastAt (store : List ℕ) (used n : ℕ) (l : Last) : Type 0 where
+pub record LastAt (store : List ℕ) (used n : ℕ) (l : Option (Argument × ℕ)) : Type 0 where
   pub is : l ≡ last_in store n
   pub lasts : Lasts (entries store used) n l

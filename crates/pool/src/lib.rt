@@ -1,6 +1,7 @@
 // The pool: a record for each argument kept and each match completed, where the Rust clones vectors (`InstructionMatch`,
 // `InstructionArgument` of `src/asm/matcher/mod.rs`). A record is one word of a store that the caller lends; a `Pool` is how
-// many of them are taken. No other crate sees the words.
+// many of them are taken. No other crate sees the words. A record is packed into one word, and the store is no array of `Record`,
+// since each call clears it: 4,096 words take 240 ns (docs/PERFORMANCE.md, "Fixed"), and a `Record` is seven numbers.
 #![tactic(auto)]
 
 ghost use Rattle.std.specs.Prelude.{◌≡◌, ◌+◌, ◌<◌, ◌≤◌, length, get_or};
@@ -25,7 +26,8 @@ pub struct Argument {
 #[derive(Clone, Copy)]
 pub enum Record {
     // An argument kept. `prev` is the argument before it in its match: its record number and 1, or 0 if there is none;
-    // `count` the exact count of its match so far.
+    // `count` the exact count of its match so far. A number and no `Option`: it says through how many records the links from
+    // here may go, which is what `args ≤ used` bounds and what each recursion over links falls by; None would be that 0 again.
     Kept {
         argument: Argument,
         prev: usize,
@@ -49,26 +51,12 @@ pub struct Pool {
     pub used: usize,
 }
 
-// What asking for a record finds.
-#[derive(Clone, Copy)]
-pub enum Room {
-    Taken(Pool),
-    Full,
-}
-
 // A match as its ruleset, its rule's number there and its last argument, as in `prev`.
 #[derive(Clone, Copy)]
 pub struct Head {
     pub set: usize,
     pub rule: usize,
     pub args: usize,
-}
-
-// Arguments up to a last one: none, or that and the one before it.
-#[derive(Clone, Copy)]
-pub enum Last {
-    First,
-    After(Argument, usize),
 }
 
 // A word's digits: places of a line, exact counts, depths, rulesets, rules, record numbers. The lowest is the kind of record.
@@ -110,7 +98,13 @@ impl Pool {
     }
 
     // A record for an argument that is kept.
-    pub fn keep(self, store: &mut [usize], argument: Argument, prev: usize, count: usize) -> Room
+    pub fn keep(
+        self,
+        store: &mut [usize],
+        argument: Argument,
+        prev: usize,
+        count: usize,
+    ) -> Option<Pool>
         requires store_len { length store.old ≡ room }
         requires used_le_room { self.used ≤ room }
         requires argument_fits { ArgumentFits argument prev count }
@@ -118,7 +112,7 @@ impl Pool {
     {
         let used = self.used;
         if used == Pool::ROOM {
-            return Room::Full;
+            return None;
         }
         let kind = argument.kind;
         let code = code_of(kind);
@@ -127,7 +121,7 @@ impl Pool {
                 + NUMBERS
                     * (argument.start
                         + PLACES * (argument.end + PLACES * (count + COUNTS * code))));
-        Room::Taken(self.more())
+        Some(self.more())
     }
 
     // A record for a match that is completed.
@@ -140,7 +134,7 @@ impl Pool {
         args: usize,
         end: usize,
         count: usize,
-    ) -> Room
+    ) -> Option<Pool>
         requires store_len { length store.old ≡ room }
         requires used_le_room { self.used ≤ room }
         requires cases { MatchFits depth set rule args end count }
@@ -148,7 +142,7 @@ impl Pool {
     {
         let used = self.used;
         if used == Pool::ROOM {
-            return Room::Full;
+            return None;
         }
         store[used] = 1
             + KINDS
@@ -157,10 +151,11 @@ impl Pool {
                         * (set
                             + RULESETS
                                 * (rule + RULES * (args + NUMBERS * (count + COUNTS * end)))));
-        Room::Taken(self.more())
+        Some(self.more())
     }
 }
 
+// Two functions and no `From`: a number of 8,192 or more has no room in a word, and a number from elsewhere is no kind.
 fn code_of(kind: ArgumentKind) -> usize
     requires { code_of kind < 8192 }
     ensures { result ≡ code_of kind }
@@ -220,29 +215,14 @@ pub fn record_at(store: &[usize], i: usize) -> Record
     }
 }
 
-// What no match has for its depth.
-const NO_DEPTH: usize = 32;
-
-// The depth of a match, by its record number; 32 for an argument.
-pub fn depth_at(store: &[usize], m: usize) -> usize
+// The depth of a match, by its record number; an argument has none.
+pub fn depth_at(store: &[usize], m: usize) -> Option<usize>
     requires { m < length store.now }
     ensures answers { result ≡ depth_in (decode (get_or store.now m 0)) }
 {
-    let record = record_at(store, m);
-    match record {
-        Record::Kept {
-            argument: _,
-            prev: _,
-            count: _,
-        } => NO_DEPTH,
-        Record::Completed {
-            depth,
-            set: _,
-            rule: _,
-            args: _,
-            end: _,
-            count: _,
-        } => depth,
+    match record_at(store, m) {
+        Record::Kept { .. } => None,
+        Record::Completed { depth, .. } => Some(depth),
     }
 }
 
@@ -251,75 +231,45 @@ pub fn count_at(store: &[usize], i: usize) -> usize
     requires { i < length store.now }
     ensures answers { result ≡ count_in (decode (get_or store.now i 0)) }
 {
-    let record = record_at(store, i);
-    match record {
-        Record::Kept {
-            argument: _,
-            prev: _,
-            count: so_far,
-        } => so_far,
-        Record::Completed {
-            depth: _,
-            set: _,
-            rule: _,
-            args: _,
-            end: _,
-            count: own,
-        } => own,
+    match record_at(store, i) {
+        Record::Kept { count: so_far, .. } => so_far,
+        Record::Completed { count: own, .. } => own,
     }
 }
 
-// The match with a record number. An argument's number, which no link to a match has, reads as rule 0 of ruleset 0.
+// The match with a record number. An argument's number, which no link to a match has, reads as rule 0 of ruleset 0, as
+// `tree_at` has it: with an `Option` each caller would have a case that never comes.
 pub fn match_at(store: &[usize], used: usize, m: usize) -> Head
     requires stored { Stored store.now used }
     requires m_lt_used { m < used }
     ensures answers { HeadAt store.now used m result }
 {
-    let record = record_at(store, m);
-    match record {
-        Record::Kept {
-            argument: _,
-            prev: _,
-            count: _,
-        } => Head {
+    match record_at(store, m) {
+        Record::Kept { .. } => Head {
             set: 0,
             rule: 0,
             args: 0,
         },
         Record::Completed {
-            depth: _,
             set,
             rule,
             args,
-            end: _,
-            count: _,
+            ..
         } => Head { set, rule, args },
     }
 }
 
-// The last of the arguments up to a number, as `prev` counts them.
-pub fn last_argument(store: &[usize], used: usize, args: usize) -> Last
+// The last of the arguments up to a number, and the number of the one before it, as `prev` counts them; None if there is none.
+pub fn last_argument(store: &[usize], used: usize, args: usize) -> Option<(Argument, usize)>
     requires stored { Stored store.now used }
     requires args_le_used { args ≤ used }
     ensures answers { LastAt store.now used args result }
 {
     if args == 0 {
-        return Last::First;
+        return None;
     }
-    let record = record_at(store, args - 1);
-    match record {
-        Record::Kept {
-            argument,
-            prev,
-            count: _,
-        } => Last::After(argument, prev),
-        Record::Completed {
-            depth: _,
-            set: _,
-            rule: _,
-            args: _,
-            end: _,
-            count: _,
-        } => Last::First,
+    match record_at(store, args - 1) {
+        Record::Kept { argument, prev, .. } => Some((argument, prev)),
+        Record::Completed { .. } => None,
     }
 }

@@ -1,5 +1,6 @@
 -- Arguments one after another. A record of an argument has a link to the one before, so arguments up to one are those up to
 -- the one before and then that one; what is counted, compared or written of arguments goes by this.
+use Rattle.std.specs.Prelude.{Option, Some, None}
 use mathlib.Core.Path.{◌≡◌, refl, ap, subst, ◌∙◌}
 use mathlib.Core.List.{List}
 use Prim.Native.Nat.{ℕ, ◌+◌, ◌<◌}
@@ -10,8 +11,6 @@ use Rattle.pool.specs.Meaning.{Chain, then_expr, then_nest, unwind, Entry, chain
 use Rattle.pool.specs.declared.ArgumentKind.{ArgumentKind}
 use Rattle.pool.specs.declared.ArgumentKind.TheVariants.{Expr, Nested}
 use Rattle.pool.specs.declared.Argument.{Argument}
-use Rattle.pool.specs.declared.Last.{Last}
-use Rattle.pool.specs.declared.Last.TheVariants.{First, After}
 use Rattle.trees.specs.Asked.{args_at}
 
 -- arguments, and others after them
@@ -51,11 +50,11 @@ pub many-one : (es : List Entry) (x y : ℕ) (k : ArgumentKind) → arg_count (o
 many-one es x y Expr = refl
 many-one es x y (Nested m) = refl
 
-module _ (es : List Entry) (a : ℕ) {l : Last} (is : Lasts es a l) where
-  pub none_before : l ≡ First → args_at es a ≡ end
+module _ (es : List Entry) (a : ℕ) {l : Option (Argument × ℕ)} (is : Lasts es a l) where
+  pub none_before : l ≡ None → args_at es a ≡ end
   none_before y = ap (λ (c : Chain). unwind c end) (is.means ∙ ap (last_means es) y)
 
-  module _ {x : Argument} {p : ℕ} (y : l ≡ After x p) where
+  module _ {x : Argument} {p : ℕ} (y : l ≡ Some (x, p)) where
     pub before : Before a x p
     before = subst (LastBefore a) y is.before
 

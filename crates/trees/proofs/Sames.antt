@@ -1,8 +1,9 @@
 -- Arguments are compared from the last one back. Arguments one after another are the same as others, with as many at the
 -- end, exactly if the first ones are and the last ones are (`same-joined`): for if not as many stand first, not as many
 -- stand in all.
+use Rattle.std.specs.Prelude.{Option, Some, None}
 use mathlib.Core.Path.{◌≡◌, refl, sym, ap, ap₂, ◌∙◌}
-use mathlib.Core.Bool.{Bool, true, false, not, ◌&&◌}
+use mathlib.Core.Bool.{Bool, true, false, ◌&&◌}
 use mathlib.Core.Logic.{⊎_elim}
 use mathlib.Core.List.{List}
 use Prim.Native.Nat.{ℕ, ◌<◌}
@@ -11,7 +12,6 @@ use lib.Dec.{eqb}
 use borrow.Author.Tests.{eq-eqb, ne_eqb}
 use Rattle.plain.specs.Choice.{select}
 use Rattle.plain.proofs.Tests.{tested, and_both, and-false-left, and-false-right, and-on}
-use Rattle.plain.proofs.Calls.{refused, passed}
 use Rattle.readings.specs.Tree.{Args, end, expr, nest, same_tree, same_args}
 use Rattle.readings.specs.Answer.{arg_count}
 use Rattle.readings.proofs.Trees.{same-args}
@@ -20,8 +20,6 @@ use Rattle.pool.specs.declared.ArgumentKind.{ArgumentKind}
 use Rattle.pool.specs.declared.ArgumentKind.TheVariants.{Expr, Nested}
 use Rattle.pool.specs.declared.Argument.{Argument}
 use Rattle.pool.specs.declared.Head.{Head}
-use Rattle.pool.specs.declared.Last.{Last}
-use Rattle.pool.specs.declared.Last.TheVariants.{First, After}
 use Rattle.trees.specs.declared.Compared.{Compared}
 use Rattle.trees.specs.declared.Compared.TheVariants.{Different, Alike, Inner}
 use Rattle.trees.specs.Asked.{args_at}
@@ -121,24 +119,24 @@ module _ {es : List Entry} {a b : ℕ} where
     pub by-arguments : x.set ≡ y.set → x.rule ≡ y.rule → {r : Bool} → r ≡ same_args (args_at es x.args) (args_at es y.args) → r ≡ same_tree (tree_at es a) (tree_at es b)
     by-arguments h k e = and-on (and_both _ _ (eq-eqb x.set y.set h) (eq-eqb x.rule y.rule k)) e ∙ sym same-heads
 
-  module _ {l k : Last} (is : Lasts es a l) (are : Lasts es b k) where
-    pub both-none : l ≡ First → k ≡ First → true ≡ same_args (args_at es a) (args_at es b)
+  module _ {l k : Option (Argument × ℕ)} (is : Lasts es a l) (are : Lasts es b k) where
+    pub both-none : l ≡ None → k ≡ None → true ≡ same_args (args_at es a) (args_at es b)
     both-none e f = sym (ap₂ same_args (none_before es a is e) (none_before es b are f))
 
-    pub first-none : l ≡ First → {y : Argument} {q : ℕ} → k ≡ After y q → false ≡ same_args (args_at es a) (args_at es b)
+    pub first-none : l ≡ None → {y : Argument} {q : ℕ} → k ≡ Some (y, q) → false ≡ same_args (args_at es a) (args_at es b)
     first-none e {y} {q} f =
         sym
         (unlike (args_at es a) (args_at es b)
         (λ h. omega (arith, ap arg_count (none_before es a is e), many-after es b are f)))
 
-    module _ {x : Argument} {p : ℕ} (e : l ≡ After x p) where
-      pub second_none : k ≡ First → false ≡ same_args (args_at es a) (args_at es b)
+    module _ {x : Argument} {p : ℕ} (e : l ≡ Some (x, p)) where
+      pub second_none : k ≡ None → false ≡ same_args (args_at es a) (args_at es b)
       second_none f =
           sym
           (unlike (args_at es a) (args_at es b)
           (λ h. omega (arith, ap arg_count (none_before es b are f), many-after es a is e)))
 
-      module _ {y : Argument} {q : ℕ} (f : k ≡ After y q) {c : Compared} (says : c ≡ compared x y) where
+      module _ {y : Argument} {q : ℕ} (f : k ≡ Some (y, q)) {c : Compared} (says : c ≡ compared x y) where
         by_last : {d : Compared} → c ≡ d → same_args (args_at es a) (args_at es b) ≡ (same_args (args_at es p) (args_at es q) && told es d)
         by_last g =
             ap₂ same_args (one-after es a is e) (one-after es b are f)
@@ -163,8 +161,8 @@ module _ {es : List Entry} {a b : ℕ} where
             (nest-earlier es a is e u, nest-earlier es b are f v)
 
         module _ {m n : ℕ} (g : c ≡ Inner m n) {i : Bool} (same : i ≡ same_tree (tree_at es m) (tree_at es n)) where
-          pub inner-differ : not i ≡ true → false ≡ same_args (args_at es a) (args_at es b)
-          inner-differ h = lasts-differ g (refused same h)
+          pub inner-differ : i ≡ false → i ≡ same_args (args_at es a) (args_at es b)
+          inner-differ h = h ∙ lasts-differ g (sym same ∙ h)
 
-          pub inner-alike : not i ≡ false → {r : Bool} → r ≡ same_args (args_at es p) (args_at es q) → r ≡ same_args (args_at es a) (args_at es b)
-          inner-alike h = lasts-alike g (passed same h)
+          pub inner-alike : i ≡ true → {r : Bool} → r ≡ same_args (args_at es p) (args_at es q) → r ≡ same_args (args_at es a) (args_at es b)
+          inner-alike h = lasts-alike g (sym same ∙ h)

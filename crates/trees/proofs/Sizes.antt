@@ -1,5 +1,6 @@
 -- Numbers that add up over a match's records, as how many words it has. Of arguments one after another such a number is the sum
 -- of theirs; so what the recursion asks for is a part of what it is asked for, and no sum wraps.
+use Rattle.std.specs.Prelude.{Option, Some, None}
 use mathlib.Core.Path.{◌≡◌, ap, ◌∙◌}
 use mathlib.Core.List.{List}
 use Prim.Native.Nat.{ℕ, ◌+◌, ◌≤◌}
@@ -9,8 +10,6 @@ use Rattle.pool.specs.Meaning.{Entry, tree_at, entries, Heads, Lasts}
 use Rattle.pool.specs.declared.ArgumentKind.TheVariants.{Expr, Nested}
 use Rattle.pool.specs.declared.Argument.{Argument}
 use Rattle.pool.specs.declared.Head.{Head}
-use Rattle.pool.specs.declared.Last.{Last}
-use Rattle.pool.specs.declared.Last.TheVariants.{First, After}
 use Rattle.trees.specs.Asked.{args_at, TreeAsked, ArgsAsked}
 use Rattle.trees.proofs.Arguments.{joined, one, none_before, before, one-after, expr-after, nest-after, nest-earlier}
 
@@ -23,11 +22,11 @@ pub record Sized (tree : Tree → ℕ) (args : Args → ℕ) : Type 0 where
 module _ {tree : Tree → ℕ} {args : Args → ℕ} (sized : Sized tree args) where
   -- ---- the numbers of arguments up to a last one
 
-  module _ {es : List Entry} {a : ℕ} {l : Last} (is : Lasts es a l) where
-    pub size_none : l ≡ First → 0 ≡ args (args_at es a)
+  module _ {es : List Entry} {a : ℕ} {l : Option (Argument × ℕ)} (is : Lasts es a l) where
+    pub size_none : l ≡ None → 0 ≡ args (args_at es a)
     size_none y = omega (arith, ap args (none_before es a is y), sized.none)
 
-    module _ {x : Argument} {p : ℕ} (y : l ≡ After x p) where
+    module _ {x : Argument} {p : ℕ} (y : l ≡ Some (x, p)) where
       pub size-before : args (args_at es p) ≤ args (args_at es a)
       size-before = omega (arith, ap args (one-after es a is y) ∙ sized.joins (args_at es p) (one es x))
 
@@ -47,7 +46,7 @@ module _ {tree : Tree → ℕ} {args : Args → ℕ} (sized : Sized tree args) w
       small = omega (arith, asked.small, ap tree is.means, sized.within h.set h.rule (args_at (entries store used) h.args));
     }
 
-    module _ {a : ℕ} (asked : ArgsAsked args most store used a) {l : Last} (is : Lasts (entries store used) a l) {x : Argument} {p : ℕ} (y : l ≡ After x p) where
+    module _ {a : ℕ} (asked : ArgsAsked args most store used a) {l : Option (Argument × ℕ)} (is : Lasts (entries store used) a l) {x : Argument} {p : ℕ} (y : l ≡ Some (x, p)) where
       pub previous-asked : ArgsAsked args most store used p
       previous-asked = record {
         stored = asked.stored;

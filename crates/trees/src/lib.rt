@@ -9,7 +9,7 @@ ghost use Rattle.pool.specs.Meaning.{Stored, entries, tree_at};
 ghost use Rattle.trees.specs.Asked.{args_at};
 ghost use Rattle.trees.specs.Same.{compared};
 
-use pool::{Argument, ArgumentKind, Last};
+use pool::{Argument, ArgumentKind};
 
 // Whether two arguments are the same, as far as their own records say: nested ones are if their matches are.
 #[derive(Clone, Copy)]
@@ -22,23 +22,13 @@ enum Compared {
 fn compare(x: Argument, y: Argument) -> Compared
     ensures { result ≡ compared x y }
 {
-    if x.start != y.start {
+    if x.start != y.start || x.end != y.end {
         return Compared::Different;
     }
-    if x.end != y.end {
-        return Compared::Different;
-    }
-    let kind = x.kind;
-    let other = y.kind;
-    match kind {
-        ArgumentKind::Expr => match other {
-            ArgumentKind::Expr => Compared::Alike,
-            ArgumentKind::Nested(_) => Compared::Different,
-        },
-        ArgumentKind::Nested(m) => match other {
-            ArgumentKind::Expr => Compared::Different,
-            ArgumentKind::Nested(n) => Compared::Inner(m, n),
-        },
+    match (x.kind, y.kind) {
+        (ArgumentKind::Expr, ArgumentKind::Expr) => Compared::Alike,
+        (ArgumentKind::Nested(m), ArgumentKind::Nested(n)) => Compared::Inner(m, n),
+        _ => Compared::Different,
     }
 }
 
@@ -52,13 +42,7 @@ pub fn is_same(store: &[usize], used: usize, a: usize, b: usize) -> bool
 {
     let x = pool::match_at(store, used, a);
     let y = pool::match_at(store, used, b);
-    if x.set != y.set {
-        return false;
-    }
-    if x.rule != y.rule {
-        return false;
-    }
-    same_arguments(store, used, x.args, y.args)
+    x.set == y.set && x.rule == y.rule && same_arguments(store, used, x.args, y.args)
 }
 
 // Whether arguments up to a last one and up to another are the same: the last ones are, and those before them.
@@ -71,26 +55,15 @@ fn same_arguments(store: &[usize], used: usize, a: usize, b: usize) -> bool
 {
     let last = pool::last_argument(store, used, a);
     let other = pool::last_argument(store, used, b);
-    match last {
-        Last::First => match other {
-            Last::First => true,
-            Last::After(_, _) => false,
-        },
-        Last::After(x, p) => match other {
-            Last::First => false,
-            Last::After(y, q) => {
-                let same = compare(x, y);
-                match same {
-                    Compared::Different => false,
-                    Compared::Alike => same_arguments(store, used, p, q),
-                    Compared::Inner(m, n) => {
-                        if !is_same(store, used, m, n) {
-                            return false;
-                        }
-                        same_arguments(store, used, p, q)
-                    }
-                }
+    match (last, other) {
+        (None, None) => true,
+        (Some((x, p)), Some((y, q))) => match compare(x, y) {
+            Compared::Different => false,
+            Compared::Alike => same_arguments(store, used, p, q),
+            Compared::Inner(m, n) => {
+                is_same(store, used, m, n) && same_arguments(store, used, p, q)
             }
         },
+        _ => false,
     }
 }

@@ -1,5 +1,6 @@
 -- Words written one list after another. Arguments' words are those of their records in order; lists that are put into a
 -- buffer each after the last are put there as one (`put-more` of `plain`).
+use Rattle.std.specs.Prelude.{Option, Some, None}
 use mathlib.Core.Path.{◌≡◌, refl, sym, ap, subst, ◌∙◌}
 use mathlib.Core.List.Memᴰ
 use mathlib.Core.List.{List, [], ◌∷◌, ◌++◌, append_assoc, append-nil, Memᴰ}
@@ -17,8 +18,6 @@ use Rattle.pool.specs.declared.ArgumentKind.{ArgumentKind}
 use Rattle.pool.specs.declared.ArgumentKind.TheVariants.{Expr, Nested}
 use Rattle.pool.specs.declared.Argument.{Argument}
 use Rattle.pool.specs.declared.Head.{Head}
-use Rattle.pool.specs.declared.Last.{Last}
-use Rattle.pool.specs.declared.Last.TheVariants.{First, After}
 use Rattle.trees.specs.Asked.{args_at, tree_length, args_length}
 use Rattle.trees.proofs.Arguments.{joined, one, none_before, one-after, expr-after, nest-after}
 use Rattle.trees.proofs.Sizes.{Sized, size-before, size_nest}
@@ -39,7 +38,7 @@ words-sized = record {
 }
 
 -- a nested argument has three words of its own, and its match's
-pub words-nest : {es : List Entry} {a : ℕ} {l : Last} → Lasts es a l → {x : Argument} {p : ℕ} → l ≡ After x p → {m : ℕ} → x.kind ≡ Nested m
+pub words-nest : {es : List Entry} {a : ℕ} {l : Option (Argument × ℕ)} → Lasts es a l → {x : Argument} {p : ℕ} → l ≡ Some (x, p) → {m : ℕ} → x.kind ≡ Nested m
     → args_length (args_at es a) ≡ args_length (args_at es p) + 3 + tree_length (tree_at es m)
 words-nest {es} is y {m} e = omega (arith, size_nest words-sized is y e, length-append (tree_words (tree_at es m)) [])
 
@@ -50,7 +49,7 @@ moved-joined d end b = refl
 moved-joined d (expr x y a) b = ap (expr (d + x) (d + y)) (moved-joined d a b)
 moved-joined d (nest x y t a) b = ap (nest (d + x) (d + y) (moved d t)) (moved-joined d a b)
 
-module _ {es : List Entry} (base : ℕ) {a : ℕ} {l : Last} (is : Lasts es a l) {x : Argument} {p : ℕ} (y : l ≡ After x p) where
+module _ {es : List Entry} (base : ℕ) {a : ℕ} {l : Option (Argument × ℕ)} (is : Lasts es a l) {x : Argument} {p : ℕ} (y : l ≡ Some (x, p)) where
   -- the words of the arguments before, and of the last one
   words-after : (one : Args) → args_at es a ≡ joined (args_at es p) one
       → arg_words (moved_args base (args_at es a)) ≡ arg_words (moved_args base (args_at es p)) ++ arg_words (moved_args base one)
@@ -107,11 +106,11 @@ module _ {es : List Entry} (base at : ℕ) (buffer : List ℕ) where
         ∙ ap (λ (n : ℕ). put_after at (h.set ∷ h.rule ∷ n ∷ arg_words (moved_args base (args_at es h.args))) buffer) (many ∙ sym (args-moved base (args_at es h.args)))
         ∙ ap (λ (t : Tree). put_after at (tree_words (moved base t)) buffer) (sym is.means)
 
-  module _ {a : ℕ} {l : Last} (is : Lasts es a l) where
-    pub none-put : l ≡ First → (buffer, at) ≡ put_after at (arg_words (moved_args base (args_at es a))) buffer
+  module _ {a : ℕ} {l : Option (Argument × ℕ)} (is : Lasts es a l) where
+    pub none-put : l ≡ None → (buffer, at) ≡ put_after at (arg_words (moved_args base (args_at es a))) buffer
     none-put y = put-none at buffer ∙ ap (λ (u : Args). put_after at (arg_words (moved_args base u)) buffer) (sym (none_before es a is y))
 
-    module _ {x : Argument} {p : ℕ} (y : l ≡ After x p) (room : at + args_length (args_at es a) ≤ length buffer) {b : List ℕ} {n : ℕ}
+    module _ {x : Argument} {p : ℕ} (y : l ≡ Some (x, p)) (room : at + args_length (args_at es a) ≤ length buffer) {b : List ℕ} {n : ℕ}
         (e : (b, n) ≡ put_after at (arg_words (moved_args base (args_at es p))) buffer) where
       abbrev ws : List ℕ
       ws = arg_words (moved_args base (args_at es p))

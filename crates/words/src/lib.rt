@@ -12,7 +12,7 @@ ghost use Rattle.readings.specs.Measure.{Fit};
 ghost use Rattle.pool.specs.Meaning.{Stored, entries, tree_at};
 ghost use Rattle.trees.specs.Asked.{args_at, tree_length, args_length, TreeAsked, ArgsAsked};
 
-use pool::{Argument, ArgumentKind, Last};
+use pool::ArgumentKind;
 
 // A tree's first words: ruleset, rule, argument count. And an argument's own: expression or nested, start, end.
 const WORDS: usize = 3;
@@ -37,15 +37,13 @@ fn argument_words(store: &[usize], used: usize, a: usize) -> usize
     requires { ArgsAsked args_length 16777216 store.now used a }
     ensures { result ≡ length (arg_words (args_at (entries store.now used) a)) }
 {
-    let last = pool::last_argument(store, used, a);
-    match last {
-        Last::First => 0,
-        Last::After(argument, prev) => {
-            let kind = argument.kind;
-            match kind {
-                ArgumentKind::Expr => argument_words(store, used, prev) + WORDS,
+    match pool::last_argument(store, used, a) {
+        None => 0,
+        Some((argument, prev)) => {
+            let before = argument_words(store, used, prev);
+            match argument.kind {
+                ArgumentKind::Expr => before + WORDS,
                 ArgumentKind::Nested(m) => {
-                    let before = argument_words(store, used, prev);
                     let inner = tree_words(store, used, m);
                     before + WORDS + inner
                 }
@@ -63,16 +61,11 @@ fn count_arguments(store: &[usize], used: usize, a: usize) -> usize
 {
     let mut count: usize = 0;
     let mut at = a;
-    loop {
-        let last = pool::last_argument(store, used, at);
-        match last {
-            Last::First => return count,
-            Last::After(_, prev) => {
-                count += 1;
-                at = prev;
-            }
-        }
+    while let Some((_, prev)) = pool::last_argument(store, used, at) {
+        count += 1;
+        at = prev;
     }
+    count
 }
 
 // Three words in the answer from a place on, and the place after them.
@@ -127,15 +120,13 @@ fn write_arguments(
     requires a_in_bounds { at + length (arg_words (args_at (entries store.now used) a)) ≤ length answer.old }
     ensures { (answer.new, result) ≡ put_after at (arg_words (moved_args base (args_at (entries store.now used) a))) answer.old }
 {
-    let last = pool::last_argument(store, used, a);
-    match last {
-        Last::First => at,
-        Last::After(argument, prev) => {
+    match pool::last_argument(store, used, a) {
+        None => at,
+        Some((argument, prev)) => {
             let next = write_arguments(store, used, prev, base, answer, at);
             let start = base + argument.start;
             let end = base + argument.end;
-            let kind = argument.kind;
-            match kind {
+            match argument.kind {
                 ArgumentKind::Expr => write_words(answer, next, EXPRESSION, start, end),
                 ArgumentKind::Nested(m) => {
                     let inner = write_words(answer, next, NESTED, start, end);

@@ -4,5 +4,5 @@ use Rattle.words.proofs.count_arguments.Goals as goal
 
 pub loop-prev-preserved : goal.loop-prev-preserved
 loop-prev-preserved c =
-    let low = (before _ _ c.last_argument-last.ensures.answers.lasts c.in-After.is).earlier in
-    (omega arith, (omega arith, omega (arith, many-after _ _ c.last_argument-last.ensures.answers.lasts c.in-After.is)))
+    let low = (before _ _ c.last_argument.ensures.answers.lasts c.in-Some.is).earlier in
+    (omega arith, (omega arith, omega (arith, many-after _ _ c.last_argument.ensures.answers.lasts c.in-Some.is)))
