@@ -8,15 +8,18 @@ use native.Mathlib.Omega.{arith}
 use lib.Dec.{eqb, leb, ltb}
 use lib.ListN.{length, take, length-map, length-take, length-drop}
 use borrow.Author.Tests.{ltb-true, ltb-false, eqb-true, eqb-false, lt-ltb, le-ltb, le-leb, lt-leb, eq-eqb, ne_eqb}
+use Rattle.std.proofs.lemmas.List.FromFn.{length-range_with_len, get_or-range_with_len}
+use Rattle.std.specs.Bool.{MatchBool}
+use Rattle.std.specs.List.{range_with_len, AllWithin, HoldsAt}
 use Rattle.plain.specs.Choice.{select}
 use Rattle.plain.specs.Below.{every_below, sum_below}
 use Rattle.plain.specs.Lists.{count}
 use Rattle.plain.proofs.Lists.{count_most}
 use Rattle.plain.proofs.Tests.{and_both, and-false-right}
-use Rattle.plain.proofs.Below.{every-fewer, every-fails}
+use Rattle.plain.proofs.Below.{every-all, every-fewer, every-fails}
 use Rattle.defs.specs.Table.{word_at, rulesets_in, records_in, parts_in, parts_from, flag_at, ruleset_at, first_at, count_at, part_word_at, part_of, rule_from, rule_words, rule_parts, rule_span, parts_between, is_parameter}
 use Rattle.defs.specs.Table.{in_range, sizes_fit, length_fits, ruleset_before, ruleset_fits, range_fits, ranges_fit, counts_fit, parameters_in, is_part}
-use Rattle.defs.specs.declared.ruledef.Parts.{Parts}
+use Rattle.std.specs.declared.ops.Range.{Range}
 use Rattle.defs.proofs.Words.{parts_whole, parts_none, parts_next}
 use Rattle.defs.specs.declared.ruledef.Part.TheVariants.{Exact, Whitespace, Expression, Nested}
 
@@ -26,6 +29,18 @@ all-passed n i f h e = sym (every-fewer n i f h e)
 
 pub one-failed : (n i : ℕ) (f : ℕ → Bool) → i < n → f i ≡ false → false ≡ every_below n f
 one-failed n i f h e = sym (every-fails n f i h e)
+
+-- the same of `all` over a range: it is true if the test holds of every number, and false if it fails of one
+pub all-below : (n : ℕ) (r : Bool) (f : ℕ → Bool) → MatchBool r (AllWithin (λ i. f i ≡ true) (range_with_len 0 n) 0 (length (range_with_len 0 n)))
+    ((k : ℕ) × (k < length (range_with_len 0 n)) × HoldsAt (λ i. f i ≡ false) (range_with_len 0 n) k) → r ≡ every_below n f
+all-below n true f d =
+    sym
+    (every-all n f
+    (λ i h. let at : i ≡ 0 + i = omega arith in ap f (at ∙ sym (get_or-range_with_len 0 n i 0 h)) ∙ d i 0 (omega arith) (omega (arith, length-range_with_len 0 n))))
+all-below n false f (k, h, e) =
+    let below : k < n = omega (arith, length-range_with_len 0 n) in
+    let at : k ≡ 0 + k = omega arith in
+    one-failed n k f below (ap f (at ∙ sym (get_or-range_with_len 0 n k 0 below)) ∙ e 0)
 
 -- ---- a ruleset's flag
 
@@ -103,7 +118,7 @@ parameter-word w = go (ltb w 256) (eqb w 256) (ltb w 512) refl refl
 abbrev pub parameters_from : List ℕ → ℕ → ℕ → ℕ
 parameters_from t at end = count is_parameter (parts_between t at end)
 
-pub parameters-whole : (t : List ℕ) (i : ℕ) (r : Parts) → r ≡ rule_span t i → parameters_from t r.at r.end ≡ parameters_in t i
+pub parameters-whole : (t : List ℕ) (i : ℕ) (r : Range ℕ) → r ≡ rule_span t i → parameters_from t r.start r.end ≡ parameters_in t i
 unfolding parameters_in
 parameters-whole t i r e = ap (count is_parameter) (parts_whole t i r e)
 

@@ -24,14 +24,7 @@ fn flags_fit(table: &[u16], sets: usize) -> bool
     requires sets_bound { sets ≤ 32 }
     ensures { result ≡ flags_fit table.now }
 {
-    let mut set = 0;
-    while set < sets {
-        if 1 < ruledef::word_at(table, ruledef::HEAD + set) {
-            return false;
-        }
-        set += 1;
-    }
-    true
+    (0..sets).all(|set| ruledef::word_at(table, ruledef::HEAD + set) <= 1)
 }
 
 // Records stand in nondecreasing ruleset order, each ruleset below S.
@@ -42,8 +35,7 @@ fn rulesets_fit(table: &[u16], sets: usize, rules: usize) -> bool
     ensures { result ≡ rulesets_fit table.now }
 {
     let mut before = 0;
-    let mut rule: u16 = 0;
-    while (rule as usize) < rules {
+    for rule in 0..rules as u16 {
         let set = ruledef::field_at(table, rule, ruledef::RULESET);
         if sets <= set {
             return false;
@@ -52,7 +44,6 @@ fn rulesets_fit(table: &[u16], sets: usize, rules: usize) -> bool
             return false;
         }
         before = set;
-        rule += 1;
     }
     true
 }
@@ -65,8 +56,7 @@ fn ranges_fit(table: &[u16], rules: usize, parts: usize) -> bool
     ensures { result ≡ (ranges_fit table.now && counts_fit table.now) }
 {
     let mut sum: usize = 0;
-    let mut rule: u16 = 0;
-    while (rule as usize) < rules {
+    for rule in 0..rules as u16 {
         let count = ruledef::field_at(table, rule, ruledef::COUNT);
         if parts < ruledef::field_at(table, rule, ruledef::FIRST) + count {
             return false;
@@ -75,7 +65,6 @@ fn ranges_fit(table: &[u16], rules: usize, parts: usize) -> bool
             return false;
         }
         sum += count;
-        rule += 1;
     }
     sum <= parts
 }
@@ -84,13 +73,9 @@ fn parameters_of(table: &[u16], rule: u16) -> usize
     ensures { result ≡ parameters_in table.now rule }
 {
     let parts = ruledef::parts_of(table, rule);
-    let end = parts.end;
-    let mut at = parts.at;
     let mut count: usize = 0;
-    while at < end {
-        let w = ruledef::word_at(table, at);
-        at += 1;
-        if ruledef::WHITESPACE < w {
+    for at in parts.start..parts.end {
+        if ruledef::WHITESPACE < ruledef::word_at(table, at) {
             count += 1;
         }
     }
@@ -113,14 +98,7 @@ fn parameters_fit(table: &[u16], rules: usize) -> bool
     requires rules_bound { rules ≤ 512 }
     ensures { result ≡ parameters_fit table.now }
 {
-    let mut rule: u16 = 0;
-    while (rule as usize) < rules {
-        if !has_few_parameters(table, rule) {
-            return false;
-        }
-        rule += 1;
-    }
-    true
+    (0..rules as u16).all(|rule| has_few_parameters(table, rule))
 }
 
 // Whether a word is a part of a table of so many rulesets.
@@ -166,11 +144,8 @@ fn eight_odd(table: &[u16], from: usize, sets: u16) -> bool
     ensures { result ≡ false → Between (λ (j : ℕ). is_part sets (word_at table.now j) ≡ true) from (from + 8) }
 {
     let mut odd = false;
-    let mut i: usize = 0;
-    while i < WIDE {
-        let at = from + i;
-        i += 1;
-        odd = odd | is_odd(table[at], sets);
+    for i in 0..WIDE {
+        odd = odd | is_odd(table[from + i], sets);
     }
     odd
 }
@@ -191,11 +166,8 @@ fn eights_fit(table: &[u16], sets: usize, from: usize, parts: usize) -> bool
     let most = sets as u16;
     let last = table.len() - WIDE;
     let mut odd = false;
-    let mut at = from;
-    while at < last {
-        let here = at;
-        at += WIDE;
-        odd = odd | eight_odd(table, here, most);
+    for at in (from..last).step_by(WIDE) {
+        odd = odd | eight_odd(table, at, most);
     }
     !(odd | eight_odd(table, last, most))
 }
@@ -212,14 +184,7 @@ fn parts_fit(table: &[u16], sets: usize, from: usize, parts: usize) -> bool
     if eights_fit(table, sets, from, parts) {
         return true;
     }
-    let mut k = 0;
-    while k < parts {
-        if !is_part(ruledef::word_at(table, from + k), sets) {
-            return false;
-        }
-        k += 1;
-    }
-    true
+    (0..parts).all(|k| is_part(ruledef::word_at(table, from + k), sets))
 }
 
 // Whether S, R and P are in range.

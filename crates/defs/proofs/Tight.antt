@@ -6,7 +6,7 @@ use mathlib.Core.List.{List}
 use Prim.Native.Nat.{ℕ}
 use Rattle.plain.proofs.Answers.{one_answer}
 use Rattle.defs.specs.declared.ruledef.Part.{Part}
-use Rattle.defs.specs.declared.ruledef.Parts.{Parts}
+use Rattle.std.specs.declared.ops.Range.{Range}
 use Rattle.defs.proofs.ruledef.word_at.Reads as word_at
 use Rattle.defs.proofs.ruledef.field_at.Reads as field_at
 use Rattle.defs.proofs.ruledef.ruleset_count.Reads as ruleset-count
@@ -36,7 +36,7 @@ is_top_rule-tight κs a r s x y = one_answer
 pub ruleset_of-tight : (κs a : _) (r s : ℕ) (x y : _) → ruleset-of.Post κs a r x → ruleset-of.Post κs a s y → r ≡ s
 ruleset_of-tight κs a r s x y = one_answer
 
-pub parts_of-tight : (κs a : _) (r s : Parts) (x y : _) → parts-of.Post κs a r x → parts-of.Post κs a s y → r ≡ s
+pub parts_of-tight : (κs a : _) (r s : Range ℕ) (x y : _) → parts-of.Post κs a r x → parts-of.Post κs a s y → r ≡ s
 parts_of-tight κs a r s x y = one_answer
 
 pub part_at-tight : (κs a : _) (r s : Part) (x y : _) → part_at.Post κs a r x → part_at.Post κs a s y → r ≡ s

@@ -1,7 +1,7 @@
 -- The table's words as the code reads them.
 use mathlib.Core.Path.{◌≡◌, sym, ap, ◌∙◌}
 use mathlib.Core.List.{List, [], ◌∷◌, map}
-use Prim.Native.Nat.{ℕ, ◌+◌, ◌*◌, ◌-◌, ◌%◌, ◌≤◌, ◌<◌, min}
+use Prim.Native.Nat.{ℕ, ◌+◌, ◌*◌, ◌-◌, ◌≤◌, ◌<◌, min}
 use native.Mathlib.Numerals.{add-one}
 use native.Mathlib.Decide.{dec_le}
 use native.Mathlib.Omega.{arith}
@@ -11,13 +11,13 @@ use borrow.Author.Tests.{lt-ltb, le-ltb, ne_eqb}
 use Rattle.defs.specs.Table.{word_at, first_at, count_at, part_of, rule_from, rule_words, rule_span, rule_parts, parts_between}
 use Rattle.defs.specs.declared.ruledef.Part.{Part}
 use Rattle.defs.specs.declared.ruledef.Part.TheVariants.{Exact, Whitespace, Expression, Nested}
-use Rattle.defs.specs.declared.ruledef.Parts.{Parts}
+use Rattle.std.specs.declared.ops.Range.{Range}
 
 -- a word as a part, by the tests that the code makes
 module _ (w v : ℕ) (is : w ≡ v) where
-  pub part-exact : w < 256 → Exact (w % 256) ≡ part_of v
+  pub part-exact : w < 256 → Exact w ≡ part_of v
   unfolding part_of
-  part-exact h = let low : w % 256 ≡ w = omega arith in ap Exact low ∙ sym (rw (part_of, lt-ltb w 256 h)) ∙ ap part_of is
+  part-exact h = sym (rw (part_of, lt-ltb w 256 h)) ∙ ap part_of is
 
   pub part-whitespace : w ≡ 256 → Whitespace ≡ part_of v
   unfolding part_of
@@ -37,13 +37,10 @@ module _ (t : List ℕ) (i a b f n : ℕ) (sets : a ≡ word_at t 0) (rules : b 
   unfolding rule_from
   from = omega (arith, sets, rules, first)
 
-  pub span-whole : 3 + a + 3 * b + f + n ≤ length t → ◌≡◌ {A = Parts} (record { at = 3 + a + 3 * b + f; end = 3 + a + 3 * b + f + n }) (rule_span t i)
+  pub span-is : {end : ℕ} → end ≡ min (3 + a + 3 * b + f + n) (length t) → ◌≡◌ {A = Range ℕ} (record { start = 3 + a + 3 * b + f; end = end }) (rule_span t i)
   unfolding rule_span
-  span-whole h = let to : 3 + a + 3 * b + f + n ≡ min (rule_from t i + count_at t i) (length t) = omega (arith, from, many) in λ j. record { at = from j; end = to j }
-
-  pub span-short : length t < 3 + a + 3 * b + f + n → ◌≡◌ {A = Parts} (record { at = 3 + a + 3 * b + f; end = length t }) (rule_span t i)
-  unfolding rule_span
-  span-short h = let to : length t ≡ min (rule_from t i + count_at t i) (length t) = omega (arith, from, many) in λ j. record { at = from j; end = to j }
+  span-is {end} e =
+      let to : end ≡ min (rule_from t i + count_at t i) (length t) = omega (arith, e, from, many) in λ j. record { start = from j; end = to j }
 
 -- ---- the parts between two places
 
@@ -57,15 +54,15 @@ take_within n l = go (dec_le n (length l))
         ap (λ (m : ℕ). take m l) e ∙ take_all (length l) l (omega arith) ∙ sym (take_all n l (omega (arith, h)))
 
 -- from where a rule's parts begin to where they end stand the rule's parts
-pub parts_whole : (t : List ℕ) (i : ℕ) (r : Parts) → r ≡ rule_span t i → parts_between t r.at r.end ≡ rule_parts t i
+pub parts_whole : (t : List ℕ) (i : ℕ) (r : Range ℕ) → r ≡ rule_span t i → parts_between t r.start r.end ≡ rule_parts t i
 unfolding parts_between rule_span rule_parts rule_words
 parts_whole t i r e =
-    ap (λ (x : Parts). parts_between t x.at x.end) e
+    ap (λ (x : Range ℕ). parts_between t x.start x.end) e
     ∙ ap (λ (l : List ℕ). map part_of (drop (rule_from t i) l)) (take_within (rule_from t i + count_at t i) t)
 
-pub parts_within : (t : List ℕ) (i : ℕ) (r : Parts) → r ≡ rule_span t i → r.end ≤ length t
+pub parts_within : (t : List ℕ) (i : ℕ) (r : Range ℕ) → r ≡ rule_span t i → r.end ≤ length t
 unfolding rule_span
-parts_within t i r e = let to : r.end ≡ min (rule_from t i + count_at t i) (length t) = ap (λ (x : Parts). x.end) e in omega arith
+parts_within t i r e = let to : r.end ≡ min (rule_from t i + count_at t i) (length t) = ap (λ (x : Range ℕ). x.end) e in omega arith
 
 module _ (t : List ℕ) (at end : ℕ) (fits : end ≤ length t) where
   pub parts_none : end ≤ at → parts_between t at end ≡ []

@@ -6,7 +6,7 @@ use Rattle.plain.specs.Choice.{select}
 use Rattle.plain.specs.Below.{every_below, sum_below}
 use Rattle.plain.specs.Lists.{count}
 use Rattle.defs.specs.declared.ruledef.Part.{Part}
-use Rattle.defs.specs.declared.ruledef.Parts.{Parts}
+use Rattle.std.specs.declared.ops.Range.{Range}
 use Rattle.defs.specs.declared.ruledef.Part.TheVariants.{Exact, Whitespace, Expression, Nested}
 
 -- the word at a place
@@ -61,8 +61,8 @@ unfoldable pub rule_words : List ℕ → ℕ → List ℕ
 rule_words t i = slice (rule_from t i) (rule_from t i + count_at t i) t
 
 -- where these words stand, as far as the table reaches
-unfoldable pub rule_span : List ℕ → ℕ → Parts
-rule_span t i = record { at = rule_from t i; end = min (rule_from t i + count_at t i) (length t) }
+unfoldable pub rule_span : List ℕ → ℕ → Range ℕ
+rule_span t i = record { start = rule_from t i; end = min (rule_from t i + count_at t i) (length t) }
 
 unfoldable pub rule_parts : List ℕ → ℕ → List Part
 rule_parts t i = map part_of (rule_words t i)

@@ -7,6 +7,8 @@ ghost use Rattle.plain.specs.Lists.{listed};
 ghost use Rattle.defs.specs.Table.{word_at, rulesets_in, records_in, field_at, ruleset_at, part_of, rule_span};
 ghost use Rattle.defs.specs.Ruledef.{is_top_rule, starts_of, tally_of, summed_up};
 
+use std::ops::Range;
+
 // S, R and P stand first; then a flag for each ruleset, three words for each rule, a word for each part.
 pub const SETS: usize = 0;
 
@@ -18,7 +20,7 @@ pub const HEAD: usize = 3;
 
 pub const FIELDS: usize = 3;
 
-// A record's words.
+// A record's words. Numbers and no enum: `field_at` answers at any number, and with an enum it would ask more of its callers.
 pub const RULESET: u16 = 0;
 
 pub const FIRST: u16 = 1;
@@ -50,13 +52,6 @@ pub enum Part {
     Whitespace,
     Expression,
     Nested(usize),
-}
-
-// Where a rule's part words stand in the table.
-#[derive(Clone, Copy)]
-pub struct Parts {
-    pub at: usize,
-    pub end: usize,
 }
 
 // The word at a place.
@@ -110,7 +105,7 @@ pub fn ruleset_of(table: &[u16], rule: u16) -> usize
 }
 
 // Where a rule's parts stand, as far as the table reaches.
-pub fn parts_of(table: &[u16], rule: u16) -> Parts
+pub fn parts_of(table: &[u16], rule: u16) -> Range<usize>
     ensures answers { result ≡ rule_span table.now rule }
 {
     let first = HEAD
@@ -118,13 +113,7 @@ pub fn parts_of(table: &[u16], rule: u16) -> Parts
         + FIELDS * word_at(table, RULES)
         + field_at(table, rule, FIRST);
     let end = first + field_at(table, rule, COUNT);
-    if end <= table.len() {
-        return Parts { at: first, end };
-    }
-    Parts {
-        at: first,
-        end: table.len(),
-    }
+    first..end.min(table.len())
 }
 
 // The part that a word stands for. Words that are no part are for `acceptance` to refuse.
@@ -132,7 +121,7 @@ fn part_of(w: usize) -> Part
     ensures { result ≡ part_of w }
 {
     if w < WHITESPACE {
-        return Part::Exact((w % WHITESPACE) as u8);
+        return Part::Exact(w as u8);
     }
     if w == WHITESPACE {
         return Part::Whitespace;
@@ -161,15 +150,13 @@ pub fn part_within(table: &[u16], at: usize) -> Part
 // ---- where each ruleset begins
 
 // At place s + 1, how many rules are of ruleset s.
-fn count_rules(table: &[u16], counts: &mut [u16])
+fn count_rules(table: &[u16], counts: &mut [u16; 33])
     requires { counts.old ≡ listed 33 (tally_of table.now 0) }
     ensures { counts.new ≡ listed 33 (tally_of table.now (records_in table.now)) }
 {
     let rules = word_at(table, RULES);
-    let mut rule: u16 = 0;
-    while (rule as usize) < rules {
+    for rule in 0..rules as u16 {
         let set = field_at(table, rule, RULESET);
-        rule += 1;
         if set < MOST_RULESETS {
             counts[set + 1] += 1;
         }
@@ -177,15 +164,12 @@ fn count_rules(table: &[u16], counts: &mut [u16])
 }
 
 // Each count becomes the sum of the counts up to it.
-fn sum_counts(counts: &mut [u16])
-    requires counts_len { length counts.old ≡ 33 }
-    requires counts_bound { summed_up counts.old 32 < 65536 }
+fn sum_counts(counts: &mut [u16; 33])
+    requires { summed_up counts.old 32 < 65536 }
     ensures { counts.new ≡ listed 33 (summed_up counts.old) }
 {
-    let mut set = 0;
-    while set < MOST_RULESETS {
+    for set in 0..MOST_RULESETS {
         counts[set + 1] = counts[set] + counts[set + 1];
-        set += 1;
     }
 }
 

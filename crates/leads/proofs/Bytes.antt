@@ -77,17 +77,17 @@ module _ (t : List ℕ) (ok : table_fits t ≡ true) where
   rule-bytes i l =
       every_take is_byte 4 (leading (rule_parts t i))
       (ap (λ ps. every is_byte (leading ps)) (sym (parts_whole t i (rule_span t i) refl))
-      ∙ leading-bytes (rulesets_in t) (slice (rule_span t i).at (rule_span t i).end t) (every-entry (is_part (rulesets_in t)) _ each))
+      ∙ leading-bytes (rulesets_in t) (slice (rule_span t i).start (rule_span t i).end t) (every-entry (is_part (rulesets_in t)) _ each))
     where
       each :
-          (k : ℕ) → k < length (slice (rule_span t i).at (rule_span t i).end t) →
-          is_part (rulesets_in t) (get_or (slice (rule_span t i).at (rule_span t i).end t) k 0) ≡ true
+          (k : ℕ) → k < length (slice (rule_span t i).start (rule_span t i).end t) →
+          is_part (rulesets_in t) (get_or (slice (rule_span t i).start (rule_span t i).end t) k 0) ≡ true
       each k m =
           let spanned = span-within t [] [] ok i l (rule_span t i) refl in
-          let long = length-drop (rule_span t i).at (take (rule_span t i).end t) in
+          let long = length-drop (rule_span t i).start (take (rule_span t i).end t) in
           let short = length-take (rule_span t i).end t in
-          ap (is_part (rulesets_in t)) (get_or-drop (rule_span t i).at (take (rule_span t i).end t) k 0 ∙ get_or-take (rule_span t i).end t ((rule_span t i).at + k) 0 (omega (arith, long, short)))
-          ∙ part_at ((rule_span t i).at + k) (omega (arith, spanned.from)) (omega (arith, long, short))
+          ap (is_part (rulesets_in t)) (get_or-drop (rule_span t i).start (take (rule_span t i).end t) k 0 ∙ get_or-take (rule_span t i).end t ((rule_span t i).start + k) 0 (omega (arith, long, short)))
+          ∙ part_at ((rule_span t i).start + k) (omega (arith, spanned.from)) (omega (arith, long, short))
 
 pub rule-short : (t : List ℕ) (i : ℕ) → length (rule_prefix (rule_parts t i)) ≤ 4
 unfolding rule_prefix

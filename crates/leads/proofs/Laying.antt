@@ -8,7 +8,7 @@ use native.Mathlib.Omega.{arith}
 use lib.ListN.{length, get_or, set}
 use lib.Seq.{get_or-set_same, get_or-set_other}
 use Rattle.defs.specs.Table.{parts_between, rule_span}
-use Rattle.defs.specs.declared.ruledef.Parts.{Parts}
+use Rattle.std.specs.declared.ops.Range.{Range}
 use Rattle.defs.proofs.Words.{parts_whole, parts_within}
 use Rattle.ruledef_map.specs.RuledefMap.{rule_prefix}
 use Rattle.places.specs.Places.{PlacedAt}
@@ -16,7 +16,7 @@ use Rattle.leads.specs.Leads.{key_of, key_at, LeadOf, Leads, Led, Among, Between
 
 -- ---- a rule's number, by where its parts stand
 
-pub span_key : (t : List ℕ) (i : ℕ) (parts : Parts) {key : ℕ} → parts ≡ rule_span t i → key ≡ key_of (rule_prefix (parts_between t parts.at parts.end)) → key ≡ key_at t i
+pub span_key : (t : List ℕ) (i : ℕ) (parts : Range ℕ) {key : ℕ} → parts ≡ rule_span t i → key ≡ key_of (rule_prefix (parts_between t parts.start parts.end)) → key ≡ key_at t i
 unfolding key_at
 span_key t i parts span e = e ∙ ap (λ ps. key_of (rule_prefix ps)) (parts_whole t i parts span)
 

@@ -157,12 +157,9 @@ fn lead_between(table: &[u16], from: usize, to: usize, leads: &mut [u32])
     requires leads_len { length leads.old ≡ 512 }
     ensures { Led table.now (Between from to) leads.old leads.new }
 {
-    let mut rule = from;
-    while rule < to {
+    for rule in from..to {
         let parts = ruledef::parts_of(table, rule as u16);
-        let here = rule;
-        rule += 1;
-        leads[here] = prefix_key(table, parts.at, parts.end) as u32;
+        leads[rule] = prefix_key(table, parts.start, parts.end) as u32;
     }
 }
 
@@ -172,11 +169,9 @@ pub fn lead_nested(table: &[u16], starts: &[u16], leads: &mut [u32])
     ensures answers { Led table.now (Nested table.now) leads.old leads.new }
 {
     let sets = ruledef::ruleset_count(table);
-    let mut set = 0;
-    while set < sets {
+    for set in 0..sets {
         let from = starts[set] as usize;
         let to = starts[set + 1] as usize;
-        set += 1;
         if from < to {
             if !ruledef::is_top_rule(table, from as u16) {
                 lead_between(table, from, to, leads);

@@ -13,7 +13,7 @@ use Rattle.plain.proofs.Tests.{and_left, and_right}
 use Rattle.plain.proofs.Lists.{listed-length, listed_at}
 use Rattle.defs.specs.Table.{rulesets_in, records_in, parts_in, parts_from, ruleset_at, rule_span, table_fits, sizes_fit, length_fits}
 use Rattle.defs.specs.Ruledef.{begins_at, starts_of}
-use Rattle.defs.specs.declared.ruledef.Parts.{Parts}
+use Rattle.std.specs.declared.ops.Range.{Range}
 use Rattle.defs.proofs.Fits.{sizes-bound}
 use Rattle.readings.proofs.Records.{pair-within, few-records, span-within}
 use Rattle.places.specs.Places.{PlacedAt, Placed, Laid}
@@ -27,17 +27,17 @@ table-short t ok =
     omega (arith, long, sizes.sets, sizes.rules, sizes.parts)
 
 -- what the code leans on: a rule of an accepted table, its ruleset and its span
-pub record Small (t starts : List ℕ) (i group : ℕ) (parts : Parts) : Type 0 where
+pub record Small (t starts : List ℕ) (i group : ℕ) (parts : Range ℕ) : Type 0 where
   pub rule : i < 512
   pub sets : group < 32
   pub there : group < length starts
   pub begins : get_or starts group 0 ≡ begins_at t group
   pub within : get_or starts group 0 ≤ i
-  pub from : parts.at < 65536
+  pub from : parts.start < 65536
   pub to : parts.end < 65536
 
 module _ (t starts : List ℕ) (ok : table_fits t ≡ true) (begins : starts ≡ starts_of t) (i : ℕ) (known : i < records_in t)
-    (group : ℕ) (group-is : group ≡ ruleset_at t i) (parts : Parts) (span : parts ≡ rule_span t i) where
+    (group : ℕ) (group-is : group ≡ ruleset_at t i) (parts : Range ℕ) (span : parts ≡ rule_span t i) where
   start_is : group < 32 → get_or starts group 0 ≡ begins_at t group
   unfolding starts_of
   start_is h = ap (λ (l : List ℕ). get_or l group 0) begins ∙ listed_at 33 (begins_at t) group (omega arith)
@@ -100,18 +100,18 @@ module _ (p : List ℕ) (i a b c d : ℕ) where
         get_or-set_same (set (set (set p (4 * i) a) (4 * i + 1) b) (4 * i + 2) c) (4 * i + 3) d 0
         (omega (arith, length-set p (4 * i) a, length-set (set p (4 * i) a) (4 * i + 1) b, length-set (set (set p (4 * i) a) (4 * i + 1) b) (4 * i + 2) c))
 
-module _ {t starts : List ℕ} {i group : ℕ} {parts : Parts} (group-is : group ≡ ruleset_at t i) (span : parts ≡ rule_span t i) (fine : Small t starts i group parts) (p : List ℕ) (sized : length p ≡ 2048) where
+module _ {t starts : List ℕ} {i group : ℕ} {parts : Range ℕ} (group-is : group ≡ ruleset_at t i) (span : parts ≡ rule_span t i) (fine : Small t starts i group parts) (p : List ℕ) (sized : length p ≡ 2048) where
   abbrev after : List ℕ
-  after = laid_in p i group (i - get_or starts group 0) parts.at parts.end
+  after = laid_in p i group (i - get_or starts group 0) parts.start parts.end
 
   here : PlacedAt t after i
   here =
       let room : 4 * i + 3 < length p = omega (arith, fine.rule) in
       record {
-        set = first p i group (i - get_or starts group 0) parts.at parts.end room ∙ group-is;
-        number = second p i group (i - get_or starts group 0) parts.at parts.end room ∙ ap (λ (b : ℕ). i - b) (fine.begins ∙ ap (begins_at t) group-is);
-        from = third p i group (i - get_or starts group 0) parts.at parts.end room ∙ ap (λ (x : Parts). x.at) span;
-        to = fourth p i group (i - get_or starts group 0) parts.at parts.end room ∙ ap (λ (x : Parts). x.end) span;
+        set = first p i group (i - get_or starts group 0) parts.start parts.end room ∙ group-is;
+        number = second p i group (i - get_or starts group 0) parts.start parts.end room ∙ ap (λ (b : ℕ). i - b) (fine.begins ∙ ap (begins_at t) group-is);
+        from = third p i group (i - get_or starts group 0) parts.start parts.end room ∙ ap (λ (x : Range ℕ). x.start) span;
+        to = fourth p i group (i - get_or starts group 0) parts.start parts.end room ∙ ap (λ (x : Range ℕ). x.end) span;
       }
 
   others : (k : ℕ) → PlacedAt t p k → PlacedAt t after k
@@ -120,10 +120,10 @@ module _ {t starts : List ℕ} {i group : ℕ} {parts : Parts} (group-is : group
       by : Dec (k ≡ i) → PlacedAt t after k
       by (yes e) = subst (PlacedAt t after) (sym e) here
       by (no ne) = record {
-        set = apart p i group (i - get_or starts group 0) parts.at parts.end (4 * k) (λ e. ne (omega arith)) (λ e. omega arith) (λ e. omega arith) (λ e. omega arith) ∙ was.set;
-        number = apart p i group (i - get_or starts group 0) parts.at parts.end (4 * k + 1) (λ e. omega arith) (λ e. ne (omega arith)) (λ e. omega arith) (λ e. omega arith) ∙ was.number;
-        from = apart p i group (i - get_or starts group 0) parts.at parts.end (4 * k + 2) (λ e. omega arith) (λ e. omega arith) (λ e. ne (omega arith)) (λ e. omega arith) ∙ was.from;
-        to = apart p i group (i - get_or starts group 0) parts.at parts.end (4 * k + 3) (λ e. omega arith) (λ e. omega arith) (λ e. omega arith) (λ e. ne (omega arith)) ∙ was.to;
+        set = apart p i group (i - get_or starts group 0) parts.start parts.end (4 * k) (λ e. ne (omega arith)) (λ e. omega arith) (λ e. omega arith) (λ e. omega arith) ∙ was.set;
+        number = apart p i group (i - get_or starts group 0) parts.start parts.end (4 * k + 1) (λ e. omega arith) (λ e. ne (omega arith)) (λ e. omega arith) (λ e. omega arith) ∙ was.number;
+        from = apart p i group (i - get_or starts group 0) parts.start parts.end (4 * k + 2) (λ e. omega arith) (λ e. omega arith) (λ e. ne (omega arith)) (λ e. omega arith) ∙ was.from;
+        to = apart p i group (i - get_or starts group 0) parts.start parts.end (4 * k + 3) (λ e. omega arith) (λ e. omega arith) (λ e. omega arith) (λ e. ne (omega arith)) ∙ was.to;
       }
 
   pub laid : Laid t p i after

@@ -7,7 +7,7 @@ use Rattle.defs.specs.Ruledef.{begins_at, starts_of}
 pub record PlacedAt (t places : List ℕ) (i : ℕ) : Type 0 where
   pub set : get_or places (4 * i) 0 ≡ ruleset_at t i
   pub number : get_or places (4 * i + 1) 0 ≡ i - begins_at t (ruleset_at t i)
-  pub from : get_or places (4 * i + 2) 0 ≡ (rule_span t i).at
+  pub from : get_or places (4 * i + 2) 0 ≡ (rule_span t i).start
   pub to : get_or places (4 * i + 3) 0 ≡ (rule_span t i).end
 
 -- the first n rules of a list are prepared

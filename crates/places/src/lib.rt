@@ -35,7 +35,7 @@ fn place_rule(table: &[u16], starts: &[u16], rule: u16, places: &mut [u16])
     let at = WORDS * (rule as usize);
     places[at] = set as u16;
     places[at + NUMBER] = rule - starts[set];
-    places[at + FROM] = parts.at as u16;
+    places[at + FROM] = parts.start as u16;
     places[at + TO] = parts.end as u16;
 }
 

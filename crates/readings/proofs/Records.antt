@@ -29,7 +29,7 @@ use Rattle.defs.specs.Ruledef.{records_of, is_top, is_top_rule, rules_in, begins
 use Rattle.ruledef_map.specs.RuledefMap.{rule_prefix, same_bytes, top_rules, with_prefix, found_in, found_rules, mark_of}
 use Rattle.defs.specs.declared.ruledef.Part.{Part}
 use Rattle.defs.specs.declared.ruledef.Part.TheVariants.{Nested}
-use Rattle.defs.specs.declared.ruledef.Parts.{Parts}
+use Rattle.std.specs.declared.ops.Range.{Range}
 use Rattle.defs.proofs.Words.{part-exact, part-whitespace, part-expression, part-nested}
 use Rattle.defs.proofs.Fits.{Sizes, sizes-bound, part-ruleset}
 use Rattle.defs.proofs.Starts.{begins-first, begins-next, ruleset-below, records-together, rule-at, rules-length}
@@ -108,11 +108,11 @@ nested-word w r e = go (dec_lt w 256) (ℕ_discrete w 256) (dec_lt w 512)
     go (no h) (no d) (no k) = (omega (arith, k), cc (part-nested w w refl (omega (arith, h)) d (omega (arith, k))))
 
 -- where the parts of a rule stand: within the table's part words, and at most 64
-pub record Spanned (t : List ℕ) (p : Parts) : Type 0 where
-  pub from : parts_from t ≤ p.at
-  pub ordered : p.at ≤ p.end
+pub record Spanned (t : List ℕ) (p : Range ℕ) : Type 0 where
+  pub from : parts_from t ≤ p.start
+  pub ordered : p.start ≤ p.end
   pub within : p.end ≤ length t
-  pub few : p.end - p.at ≤ 64
+  pub few : p.end - p.start ≤ 64
 
 -- ---- the sentences of acceptance
 
@@ -306,14 +306,14 @@ module _ (t line sheet : List ℕ) (ok : table_fits t ≡ true) where
       let below = part-ruleset (rulesets_in t) (word_at t j) (omega arith) (λ q. omega arith) (λ q. omega arith) high ∙ ap (λ (n : ℕ). is_part (rulesets_in t) (word_at t n)) (sym at) ∙ good in
       omega (arith, ltb-true (word_at t j - 512) (rulesets_in t) below, (sizes t ok).sets)
 
-  pub span-within : (i : ℕ) → i < records_in t → (p : Parts) → p ≡ rule_span t i → Spanned t p
+  pub span-within : (i : ℕ) → i < records_in t → (p : Range ℕ) → p ≡ rule_span t i → Spanned t p
   unfolding ranges_fit range_fits rule_span rule_from
   span-within i h p e =
       let good = every-at (records_in t) (range_fits t) (ranges-fit t ok) i h in
       let ends = leb-true (first_at t i + count_at t i) (parts_in t) (and_left (leb (first_at t i + count_at t i) (parts_in t)) _ good) in
       let most = leb-true (count_at t i) 64 (and_right (leb (first_at t i + count_at t i) (parts_in t)) _ good) in
-      let at : p.at ≡ parts_from t + first_at t i = ap (λ (x : Parts). x.at) e in
-      let end : p.end ≡ min (parts_from t + first_at t i + count_at t i) (length t) = ap (λ (x : Parts). x.end) e in
+      let at : p.start ≡ parts_from t + first_at t i = ap (λ (x : Range ℕ). x.start) e in
+      let end : p.end ≡ min (parts_from t + first_at t i + count_at t i) (length t) = ap (λ (x : Range ℕ). x.end) e in
       record {
         from = omega arith;
         ordered = omega (arith, length-is t ok);

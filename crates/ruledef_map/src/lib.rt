@@ -27,13 +27,10 @@ pub fn parse_prefix(line: &[u8]) -> Prefix
 {
     let mut bytes = [0u8; 4];
     let mut count: usize = 0;
-    let mut at: usize = 0;
-    while at < line.len() {
+    for &b in line {
         if MAX_PREFIX_SIZE <= count {
             return Prefix { bytes, count };
         }
-        let b = line[at];
-        at += 1;
         if !token::is_whitespace(b) {
             bytes[count] = token::to_ascii_lowercase(b);
             count += 1;
@@ -54,10 +51,8 @@ fn prefix_length(table: &[u16], rule: u16, prefix: Prefix) -> u8
     ensures { result ≡ prefix_length (rule_parts table.now rule) (prefix_bytes prefix) }
 {
     let parts = ruledef::parts_of(table, rule);
-    let end = parts.end;
-    let mut at = parts.at;
     let mut same: u8 = 0;
-    while at < end {
+    for at in parts.start..parts.end {
         let b = match ruledef::part_at(table, at) {
             Part::Exact(b) => b,
             Part::Whitespace => return same,
@@ -74,7 +69,6 @@ fn prefix_length(table: &[u16], rule: u16, prefix: Prefix) -> u8
             return MISSED;
         }
         same += 1;
-        at += 1;
     }
     same
 }
@@ -91,12 +85,9 @@ pub fn top_rules(table: &[u16], found: &mut [u16]) -> usize
         return 0;
     }
     let mut count: usize = 0;
-    let mut rule: u16 = 0;
-    while (rule as usize) < rules {
-        let here = rule;
-        rule += 1;
-        if ruledef::is_top_rule(table, here) {
-            found[count] = here;
+    for rule in 0..rules as u16 {
+        if ruledef::is_top_rule(table, rule) {
+            found[count] = rule;
             count += 1;
         }
     }
@@ -117,11 +108,8 @@ fn mark_rules(table: &[u16], rules: usize, prefix: Prefix, marks: &mut [u8])
     requires rules_in_bounds { rules ≤ length marks.old }
     ensures { (i : ℕ) → i < rules → get_or marks.new i 0 ≡ mark_of table.now (prefix_bytes prefix) i }
 {
-    let mut rule: u16 = 0;
-    while (rule as usize) < rules {
-        let at = rule as usize;
-        marks[at] = mark(table, rule, prefix);
-        rule += 1;
+    for rule in 0..rules as u16 {
+        marks[rule as usize] = mark(table, rule, prefix);
     }
 }
 
@@ -142,13 +130,9 @@ fn gather(marks: &[u8], rules: usize, wanted: u8, found: &mut [u16], from: usize
     ensures { (found.new, result) ≡ put_after from (with_mark marks.now rules wanted) found.old }
 {
     let mut count = from;
-    let mut rule: u16 = 0;
-    while (rule as usize) < rules {
-        let here = rule;
-        let at = rule as usize;
-        rule += 1;
-        if marks[at] == wanted {
-            found[count] = here;
+    for rule in 0..rules as u16 {
+        if marks[rule as usize] == wanted {
+            found[count] = rule;
             count += 1;
         }
     }
@@ -170,10 +154,8 @@ pub fn query_prefixed(table: &[u16], prefix: Prefix, found: &mut [u16]) -> usize
     let mut marks = no_marks();
     mark_rules(table, rules, prefix, &mut marks);
     let mut count: usize = 0;
-    let mut size: u8 = 0;
-    while size <= FULL {
+    for size in 0..=FULL {
         count = gather(&marks, rules, size, found, count);
-        size += 1;
     }
     count
 }

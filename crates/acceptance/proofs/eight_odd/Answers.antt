@@ -5,5 +5,4 @@ use Rattle.acceptance.proofs.eight_odd.Goals as goal
 
 pub loop-i-preserved : goal.loop-i-preserved
 unfolding word_at
-loop-i-preserved c =
-    (omega arith, both-between c.loop-i.invariant.1 (λ even. one-between (omega arith) (c.is_odd-odd.ensures even)))
+loop-i-preserved c = both-between c.loop-i.invariant (λ even. one-between (omega arith) (c.is_odd-odd.ensures even))

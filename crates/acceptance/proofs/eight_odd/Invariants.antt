@@ -1,12 +1,9 @@
 -- The loop's invariant: if nothing was odd, every word passed is a part.
 use mathlib.Core.Path.{◌≡◌}
 use mathlib.Core.Bool.{false}
-use Prim.Native.Nat.{◌+◌, ◌-◌, ◌≤◌}
+use Prim.Native.Nat.{◌+◌}
 use Rattle.acceptance.proofs.Eights.{PartsFrom}
 use Rattle.acceptance.proofs.eight_odd.Given as goal
 
 abbrev pub invariant-loop-i : goal.invariant-loop-i
-invariant-loop-i l = (l.i ≤ 8) × (l.odd ≡ false → PartsFrom l.sets l.table l.from (l.from + l.i))
-
-abbrev pub decreases-loop-i : goal.decreases-loop-i
-decreases-loop-i l = 8 - l.i
+invariant-loop-i l = l.odd ≡ false → PartsFrom l.sets l.table l.from (l.from + l.i)

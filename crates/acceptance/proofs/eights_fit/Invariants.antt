@@ -1,12 +1,8 @@
 -- The loop's invariant: if nothing was odd, every word from the first part to here is a part.
 use mathlib.Core.Path.{◌≡◌}
 use mathlib.Core.Bool.{false}
-use Prim.Native.Nat.{◌-◌}
 use Rattle.acceptance.proofs.Eights.{PartsFrom}
 use Rattle.acceptance.proofs.eights_fit.Given as goal
 
 abbrev pub invariant-loop-at : goal.invariant-loop-at
 invariant-loop-at l = l.odd ≡ false → PartsFrom l.most l.table l.from l.at
-
-abbrev pub decreases-loop-at : goal.decreases-loop-at
-decreases-loop-at l = l.last - l.at

@@ -1,20 +1,16 @@
-use mathlib.Core.Path.{sym, ◌∙◌}
+use borrow.Author.Tests.{tests}
+use borrow.Author.Rules.{rules}
 use native.Mathlib.Omega.{arith}
-use Rattle.plain.proofs.Below.{every-none, every-step}
-use Rattle.defs.specs.Table.{parts_fit}
-use Rattle.acceptance.proofs.Check.{all-passed, one-failed, part-tested}
+use mathlib.Core.Path.{◌≡◌, refl}
+use mathlib.Core.Bool.{true, false}
+use Rattle.std.proofs.lemmas.Iterator.{cases_from_all, YieldsList-from_range}
+use Rattle.defs.specs.Table.{is_part, part_word_at, parts_fit, rulesets_in, parts_in}
+use Rattle.acceptance.proofs.Check.{all-below}
 use Rattle.acceptance.proofs.parts_fit.Goals as goal
 
-pub loop-k-init : goal.loop-k-init
-loop-k-init c = every-none _
-
-pub returns-then-not-is_part : goal.returns-then-not-is_part
-unfolding parts_fit
-returns-then-not-is_part c = one-failed _ _ _ (omega arith) (sym (part-tested _ _ _ _ _ _ c.requires.sets_value c.requires.from_value c.word_at.ensures.answers c.is_part.ensures.answers) ∙ c.if-not-is_part.true)
-
-pub loop-k-preserved : goal.loop-k-preserved
-loop-k-preserved c = every-step _ _ c.loop-k.invariant (sym (part-tested _ _ _ _ _ _ c.requires.sets_value c.requires.from_value c.word_at.ensures.answers c.is_part.ensures.answers) ∙ c.if-not-is_part.false)
-
 pub returns : goal.returns
-unfolding parts_fit
-returns c = all-passed _ _ _ (omega arith) c.loop-k.invariant
+unfolding parts_fit part_word_at
+returns c =
+    all-below _ _ _
+    (cases_from_all _ _ _ (λ k. is_part (rulesets_in c.args.table.now) (part_word_at c.args.table.now k) ≡ true) (λ k. is_part (rulesets_in c.args.table.now) (part_word_at c.args.table.now k) ≡ false) c.all.ensures.ran
+    (YieldsList-from_range 0 c.args.parts (parts_in c.args.table.now) refl (omega arith)) (λ x q k. search (rules, tests)) (λ x q k. search (rules, tests)))

@@ -6,7 +6,7 @@ use Rattle.acceptance.proofs.Check.{range-fits, range-past, range-long, ranges-f
 use Rattle.acceptance.proofs.ranges_fit.Goals as goal
 
 pub loop-rule-init : goal.loop-rule-init
-loop-rule-init c = (every-none _, (sym (sum-none _), (omega arith, omega arith)))
+loop-rule-init c = (every-none _, (sym (sum-none _), omega arith))
 
 pub returns-then-parts-field_at : goal.returns-then-parts-field_at
 returns-then-parts-field_at c = ranges-fail _ _ (omega arith) (range-past _ _ _ _ _ c.requires.parts_value c.field_at.ensures.answers c.field_at-count.ensures.answers c.if-parts-field_at.true)
@@ -17,7 +17,7 @@ returns-then-count-gt-MOST_PARTS_A_RULE c = ranges-fail _ _ (omega arith) (range
 pub loop-rule-preserved : goal.loop-rule-preserved
 loop-rule-preserved c = (
   every-step _ _ c.loop-rule.invariant.0 (range-fits _ _ _ _ _ c.requires.parts_value c.field_at.ensures.answers c.field_at-count.ensures.answers (omega arith) (omega arith)),
-  (ap₂ ◌+◌ c.loop-rule.invariant.1.0 c.field_at-count.ensures.answers ∙ sym (sum_more _ _), (omega arith, omega arith)),
+  (ap₂ ◌+◌ c.loop-rule.invariant.1.0 c.field_at-count.ensures.answers ∙ sym (sum_more _ _), omega arith),
 )
 
 pub returns : goal.returns

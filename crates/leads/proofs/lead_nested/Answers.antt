@@ -1,12 +1,14 @@
-use mathlib.Core.Path.{refl}
 use Prim.Native.Nat.{◌+◌}
 use native.Mathlib.Omega.{arith}
-use Rattle.plain.proofs.Calls.{refused, passed}
 use Rattle.leads.proofs.Nested.{starts-long, starts-few, sets-few, nested-none, nested-top, nested-led, nested-empty, nested-all}
+use Rattle.defs.specs.Table.{rulesets_in}
 use Rattle.leads.proofs.lead_nested.Goals as goal
+use Rattle.leads.proofs.lead_nested.Goals.{then-from-to+then-not-is_top_rule, then-from-to+else-not-is_top_rule, else-from-to}
+use Prim.Native.Nat.{◌<◌}
+use mathlib.Core.Path.{sym, ◌∙◌}
 
 pub loop-set-init : goal.loop-set-init
-loop-set-init c = (nested-none c.requires, (refl, omega arith))
+loop-set-init c = nested-none c.requires
 
 pub offset_bounds-starts-set : goal.offset_bounds-starts-set
 offset_bounds-starts-set c = omega (arith, c.ruleset_count-sets.ensures.answers, sets-few c.requires)
@@ -23,14 +25,17 @@ bounds-starts-set-in-loop-set c = starts-long c.requires _ (omega (arith, c.rule
 pub lead_between-requires-clause-to_bound : goal.lead_between-requires-clause-to_bound
 lead_between-requires-clause-to_bound c = (starts-few c.requires (c.loop-set.set + 1) (omega (arith, c.ruleset_count-sets.ensures.answers))).0
 
-pub loop-set-preserved-then-not-is_top_rule : goal.loop-set-preserved-then-not-is_top_rule
-loop-set-preserved-then-not-is_top_rule c = (nested-led c.requires (omega (arith, c.ruleset_count-sets.ensures.answers)) c.loop-set.invariant.0 c.if-from-to.true (refused c.is_top_rule.ensures.answers c.if-not-is_top_rule.true-raw) c.lead_between.ensures, (omega (arith, c.lead_between.auto), omega arith))
-
-pub loop-set-preserved-else-not-is_top_rule : goal.loop-set-preserved-else-not-is_top_rule
-loop-set-preserved-else-not-is_top_rule c = (nested-top c.requires (omega (arith, c.ruleset_count-sets.ensures.answers)) c.loop-set.invariant.0 c.if-from-to.true (passed c.is_top_rule.ensures.answers c.if-not-is_top_rule.false-raw), (c.loop-set.invariant.1.0, omega arith))
-
 pub loop-set-preserved : goal.loop-set-preserved
-loop-set-preserved c = (nested-empty c.requires (omega (arith, c.ruleset_count-sets.ensures.answers)) c.loop-set.invariant.0 c.if-from-to.false, (c.loop-set.invariant.1.0, omega arith))
+loop-set-preserved c =
+    let set : c.loop-set.set < rulesets_in c.args.table.now = omega (arith, c.ruleset_count-sets.ensures.answers) in
+    elim c.if-from-to.branch [
+      | then-from-to+then-not-is_top_rule w ↦
+          rw w.leads-is
+          (nested-led c.requires set c.loop-set.invariant w.if-from-to.true (sym w.is_top_rule.ensures.answers ∙ w.if-not-is_top_rule.true) w.lead_between.ensures)
+      | then-from-to+else-not-is_top_rule w ↦
+          rw w.leads-is (nested-top c.requires set c.loop-set.invariant w.if-from-to.true (sym w.is_top_rule.ensures.answers ∙ w.if-not-is_top_rule.false))
+      | else-from-to w ↦ rw w.leads-is (nested-empty c.requires set c.loop-set.invariant w.if-from-to.false)
+    ]
 
 pub returns : goal.returns
-returns c = record { answers = nested-all c.requires (omega (arith, c.ruleset_count-sets.ensures.answers)) c.loop-set.invariant.0 }
+returns c = record { answers = nested-all c.requires (omega (arith, c.ruleset_count-sets.ensures.answers)) c.loop-set.invariant }

@@ -1,12 +1,6 @@
 -- The loop's invariant: the rules of the marks below this size are written.
-use mathlib.Core.Path.{◌≡◌}
-use Prim.Native.Nat.{◌-◌, ◌≤◌}
-use lib.ListN.{length}
 use Rattle.ruledef_map.proofs.Orders.{Taken}
 use Rattle.ruledef_map.proofs.query_prefixed.Given as goal
 
 abbrev pub invariant-loop-size : goal.invariant-loop-size
-invariant-loop-size l = Taken l.marks l.rules l.initial.found l.size l.count l.found × ((length l.found ≡ length l.initial.found) × (l.size ≤ 5))
-
-abbrev pub decreases-loop-size : goal.decreases-loop-size
-decreases-loop-size l = 5 - l.size
+invariant-loop-size l = Taken l.marks l.rules l.initial.found l.size l.count l.found

@@ -10,9 +10,9 @@ pub count_rules-requires : goal.count_rules-requires
 unfolding listed range
 count_rules-requires c = tally-zero c.args.table.now
 
-pub sum_counts-requires-clause-counts_bound : goal.sum_counts-requires-clause-counts_bound
+pub sum_counts-requires : goal.sum_counts-requires
 unfolding word_at
-sum_counts-requires-clause-counts_bound c = tally-fits c.args.table.now _ c.count_rules.ensures (omega (arith, c.type_inv.table 1))
+sum_counts-requires c = tally-fits c.args.table.now _ c.count_rules.ensures (omega (arith, c.type_inv.table 1))
 
 pub returns : goal.returns
 returns c = record { answers = c.sum_counts.ensures ∙ tally-starts _ _ c.count_rules.ensures }

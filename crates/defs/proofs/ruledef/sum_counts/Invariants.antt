@@ -1,13 +1,8 @@
 -- The loop's invariant: up to here the counts are summed.
 use mathlib.Core.Path.{◌≡◌}
-use Prim.Native.Nat.{◌-◌, ◌≤◌}
-use lib.ListN.{length}
 use Rattle.plain.specs.Lists.{listed}
 use Rattle.defs.proofs.Starts.{half_summed}
 use Rattle.defs.proofs.ruledef.sum_counts.Given as goal
 
 abbrev pub invariant-loop-set : goal.invariant-loop-set
-invariant-loop-set l = (l.counts ≡ listed 33 (half_summed l.fn.counts l.set)) × ((length l.counts ≡ 33) × (l.set ≤ 32))
-
-abbrev pub decreases-loop-set : goal.decreases-loop-set
-decreases-loop-set l = 32 - l.set
+invariant-loop-set l = l.counts ≡ listed 33 (half_summed l.fn.counts l.set)
