@@ -105,8 +105,7 @@ fn put_encoding<W: Write>(out: &mut W, encoding: Encoding) -> io::Result<()> {
 }
 
 fn put_pattern<W: Write>(out: &mut W, table: &[u16], rule: u16) -> io::Result<()> {
-    let parts = parts_of(table, rule);
-    for at in parts.at..parts.end {
+    for at in parts_of(table, rule) {
         put_part(out, part_at(table, at))?;
     }
     Ok(())
