@@ -130,16 +130,10 @@ module _ (text : ℕ) (ends : List ℕ) (sheets budgets bases rows : ℕ) where
             after-count (and-on fit (and-on (eq-eqb sheets (sheets_size 0 ends) (right ∙ is)) (and-off _ (ne_eqb budgets (length ends) ne))))
 
         module _ (same : budgets ≡ length ends) where
-          after-budgets : {b : Bool} → b ≡ (eqb bases (length ends) && eqb rows (2 * length ends)) → b ≡ program_fits text ends sheets budgets bases rows
+          pub after-budgets : {b : Bool} → b ≡ (eqb bases (length ends) && eqb rows (2 * length ends)) → b ≡ program_fits text ends sheets budgets bases rows
           after-budgets r =
               let (fit, is) = good-fit size (sym q ∙ e) in
               after-count (and-on fit (and-on (eq-eqb sheets (sheets_size 0 ends) (right ∙ is)) (and-on (eq-eqb budgets (length ends) same) r)))
-
-          pub bases-bad : (bases ≡ length ends → ⊥) → false ≡ program_fits text ends sheets budgets bases rows
-          bases-bad ne = after-budgets (and-off _ (ne_eqb bases (length ends) ne))
-
-          pub rows_told : bases ≡ length ends → {b : Bool} → b ≡ eqb rows (2 * length ends) → b ≡ program_fits text ends sheets budgets bases rows
-          rows_told one r = after-budgets (and-on (eq-eqb bases (length ends) one) r)
 
 -- what a program that fits has been lent
 pub record Fitting (text : ℕ) (ends : List ℕ) (sheets budgets bases rows : ℕ) : Type 0 where

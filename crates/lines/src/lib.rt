@@ -66,8 +66,5 @@ pub fn check_program(
     if budgets != ends.len() {
         return false;
     }
-    if bases != ends.len() {
-        return false;
-    }
-    rows == 2 * ends.len()
+    (bases == ends.len()) & (rows == 2 * ends.len())
 }

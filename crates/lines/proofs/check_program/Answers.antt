@@ -1,7 +1,7 @@
 -- `lines::check_program` meets its contract.
 use native.Mathlib.Omega.{arith}
 use mathlib.Core.Path.{refl}
-use Rattle.lines.proofs.Measured.{too_many, ends-bad, sheets-bad, budgets-bad, bases-bad, rows_told}
+use Rattle.lines.proofs.Measured.{too_many, ends-bad, sheets-bad, budgets-bad, after-budgets}
 use Rattle.lines.proofs.check_program.Goals as goal
 
 pub returns-then-ends-gt-MOST_LINES : goal.returns-then-ends-gt-MOST_LINES
@@ -13,11 +13,8 @@ returns-then-sheets-size c = record { answers = sheets-bad _ _ _ _ _ _ (omega ar
 pub returns-then-budgets-ends : goal.returns-then-budgets-ends
 returns-then-budgets-ends c = record { answers = budgets-bad _ _ _ _ _ _ (omega arith) _ c.measure.ensures _ c.in-Some.is c.if-sheets-size.false c.if-budgets-ends.true }
 
-pub returns-then-bases-ends : goal.returns-then-bases-ends
-returns-then-bases-ends c = record { answers = bases-bad _ _ _ _ _ _ (omega arith) _ c.measure.ensures _ c.in-Some.is c.if-sheets-size.false c.if-budgets-ends.false c.if-bases-ends.true }
-
 pub returns-in_default : goal.returns-in_default
 returns-in_default c = record { answers = ends-bad _ _ _ _ _ _ (omega arith) _ c.measure.ensures c.in_default.is }
 
 pub returns : goal.returns
-returns c = record { answers = rows_told _ _ _ _ _ _ (omega arith) _ c.measure.ensures _ c.in-Some.is c.if-sheets-size.false c.if-budgets-ends.false c.if-bases-ends.false refl }
+returns c = record { answers = after-budgets _ _ _ _ _ _ (omega arith) _ c.measure.ensures _ c.in-Some.is c.if-sheets-size.false c.if-budgets-ends.false refl }
