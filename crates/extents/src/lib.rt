@@ -4,14 +4,14 @@
 // length, a limit within the line, and a start that is not above it.
 #![tactic(auto)]
 
-ghost use Rattle.std.specs.Prelude.{◌≡◌, true, not, ◌&&◌, ◌||◌, ℕ, ◌+◌, ◌≤◌, ltb};
+ghost use Rattle.std.specs.Prelude.{◌≡◌, true, not, ◌&&◌, ◌||◌, ℕ, ◌+◌, ◌<◌, ◌≤◌, ltb};
 ghost use Rattle.plain.specs.Below.{every_below};
 ghost use Rattle.extents.specs.Sheet.{sized, HasEntry, ReadAt, entry_at, entry_fits, fits_at, row_fits, half_fits, sheet_fits};
 ghost use Rattle.extents.specs.Held.{HeldPlaces};
 ghost use Rattle.extents.specs.declared.Half.TheVariants.{Free, Greedy};
 ghost use Rattle.extents.specs.Sheet.{entry_end, end_in, free_end, greedy_end};
 
-// An entry's byte that says: no expression here.
+// An entry's byte that says: no expression here. A byte, and no Option, since the sheet is lent in document 01's format.
 const NONE: u8 = 255;
 
 // How many halves a sheet has.
@@ -85,11 +85,8 @@ pub fn held_places() -> [u8; PLACES]
     ensures answers { HeldPlaces result }
 {
     let mut list = [0u8; PLACES];
-    let mut place: u8 = 0;
-    while place <= LONGEST {
-        let at = place as usize;
-        list[at] = place;
-        place += 1;
+    for place in 0..=LONGEST {
+        list[place as usize] = place;
     }
     list
 }
@@ -99,8 +96,7 @@ fn held_between(c: u8, l: u8, e: u8) -> u8
     ensures stays { c ≤ e → e ≤ l → result ≡ e }
     ensures lies { c ≤ l → result ≡ e → (c ≤ e) × (e ≤ l) }
 {
-    let from = if e < c { c } else { e };
-    if l < from { l } else { from }
+    e.max(c).min(l)
 }
 
 // Whether an entry is neither 255 nor from its start to its limit, if its start is not above its limit. It chooses among numbers
@@ -118,88 +114,44 @@ fn is_pair_odd(c: u8, l: u8, free: u8, greedy: u8) -> bool
     (c <= l) & (is_odd(c, l, free) | is_odd(c, l, greedy))
 }
 
-// Whether an entry of either half is odd, for start c and one of the sixteen limits from l on. The count is fixed and no
-// entry ends the loop, so that the compiler tries them at once.
-fn sixteen_odd(sheet: &[u8], places: &[u8], n: usize, c: usize, l: usize) -> bool
+// Whether an entry of either half is odd, for start c and one of the N limits from l on. The count is fixed and no entry ends the
+// loop, so that the compiler tries them at once.
+fn odd_from<const N: usize>(sheet: &[u8], places: &[u8], n: usize, c: usize, l: usize) -> bool
     requires size { sized sheet.now n ≡ true }
     requires held { HeldPlaces places.now }
     requires short { n ≤ 120 }
     requires start { c ≤ n }
-    requires room { l + 16 ≤ n + 1 }
-    ensures odd { result ≡ not (every_below 16 (λ (k : ℕ). fits_at sheet.now n Free c (l + k) && fits_at sheet.now n Greedy c (l + k))) }
+    requires room { l + N ≤ n + 1 }
+    ensures odd { result ≡ not (every_below N (λ (k : ℕ). fits_at sheet.now n Free c (l + k) && fits_at sheet.now n Greedy c (l + k))) }
 {
     let start = places[c];
     let mut odd = false;
-    let mut i: usize = 0;
-    while i < WIDE {
+    for i in 0..N {
         let at = l + i;
         let free = entry(sheet, n, Half::Free, c, at);
         let greedy = entry(sheet, n, Half::Greedy, c, at);
         odd = odd | is_pair_odd(start, places[at], free, greedy);
-        i += 1;
     }
     odd
 }
 
-// As `sixteen_odd`, for the eight limits from l on.
-fn eight_odd(sheet: &[u8], places: &[u8], n: usize, c: usize, l: usize) -> bool
+// Whether the entries of both halves for start c fit, tried N at a time. The last N end with the row: they may try some limits
+// again, and some below the start, which are never odd.
+fn row_fits_by<const N: usize>(sheet: &[u8], places: &[u8], n: usize, c: usize) -> bool
     requires size { sized sheet.now n ≡ true }
     requires held { HeldPlaces places.now }
     requires short { n ≤ 120 }
     requires start { c ≤ n }
-    requires room { l + 8 ≤ n + 1 }
-    ensures odd { result ≡ not (every_below 8 (λ (k : ℕ). fits_at sheet.now n Free c (l + k) && fits_at sheet.now n Greedy c (l + k))) }
-{
-    let start = places[c];
-    let mut odd = false;
-    let mut i: usize = 0;
-    while i < NARROW {
-        let at = l + i;
-        let free = entry(sheet, n, Half::Free, c, at);
-        let greedy = entry(sheet, n, Half::Greedy, c, at);
-        odd = odd | is_pair_odd(start, places[at], free, greedy);
-        i += 1;
-    }
-    odd
-}
-
-// Whether the entries of both halves for start c fit, tried sixteen at a time. The last sixteen end with the row: they may
-// try some limits again, and some below the start, which are never odd.
-fn wide_row_fits(sheet: &[u8], places: &[u8], n: usize, c: usize) -> bool
-    requires size { sized sheet.now n ≡ true }
-    requires held { HeldPlaces places.now }
-    requires short { n ≤ 120 }
-    requires start { c ≤ n }
-    requires room { 16 ≤ n + 1 }
+    requires some { 0 < N }
+    requires room { N ≤ n + 1 }
     ensures fits { result ≡ (row_fits sheet.now n Free c && row_fits sheet.now n Greedy c) }
 {
-    let last = n + 1 - WIDE;
+    let last = n + 1 - N;
     let mut odd = false;
-    let mut l: usize = c;
-    while l < last {
-        odd = odd | sixteen_odd(sheet, places, n, c, l);
-        l += WIDE;
+    for l in (c..last).step_by(N) {
+        odd = odd | odd_from::<N>(sheet, places, n, c, l);
     }
-    !(odd | sixteen_odd(sheet, places, n, c, last))
-}
-
-// As `wide_row_fits`, tried eight at a time.
-fn narrow_row_fits(sheet: &[u8], places: &[u8], n: usize, c: usize) -> bool
-    requires size { sized sheet.now n ≡ true }
-    requires held { HeldPlaces places.now }
-    requires short { n ≤ 120 }
-    requires start { c ≤ n }
-    requires room { 8 ≤ n + 1 }
-    ensures fits { result ≡ (row_fits sheet.now n Free c && row_fits sheet.now n Greedy c) }
-{
-    let last = n + 1 - NARROW;
-    let mut odd = false;
-    let mut l: usize = c;
-    while l < last {
-        odd = odd | eight_odd(sheet, places, n, c, l);
-        l += NARROW;
-    }
-    !(odd | eight_odd(sheet, places, n, c, last))
+    !(odd | odd_from::<N>(sheet, places, n, c, last))
 }
 
 // Whether the entries of both halves for start c fit, sixteen or eight at a time.
@@ -212,9 +164,9 @@ fn byte_row_fits(sheet: &[u8], places: &[u8], n: usize, c: usize) -> bool
     ensures fits { result ≡ (row_fits sheet.now n Free c && row_fits sheet.now n Greedy c) }
 {
     if n < SHORTEST_WIDE {
-        return narrow_row_fits(sheet, places, n, c);
+        return row_fits_by::<NARROW>(sheet, places, n, c);
     }
-    wide_row_fits(sheet, places, n, c)
+    row_fits_by::<WIDE>(sheet, places, n, c)
 }
 
 // Whether the entries of both halves fit at every start, for a line that is neither too long nor too short: starts, limits
@@ -226,12 +178,10 @@ fn byte_sheet_fits(sheet: &[u8], places: &[u8], n: usize) -> bool
     requires room { 8 ≤ n + 1 }
     ensures fits { result ≡ (half_fits sheet.now n Free && half_fits sheet.now n Greedy) }
 {
-    let mut c = 0;
-    while c <= n {
+    for c in 0..=n {
         if !byte_row_fits(sheet, places, n, c) {
             return false;
         }
-        c += 1;
     }
     true
 }
@@ -242,12 +192,10 @@ fn row_fits(sheet: &[u8], n: usize, half: Half, c: usize) -> bool
     requires start { c ≤ n }
     ensures fits { result ≡ row_fits sheet.now n half c }
 {
-    let mut l = c;
-    while l <= n {
+    for l in c..=n {
         if !entry_fits(c, l, entry(sheet, n, half, c, l)) {
             return false;
         }
-        l += 1;
     }
     true
 }
@@ -257,12 +205,10 @@ fn half_fits(sheet: &[u8], n: usize, half: Half) -> bool
     requires size { sized sheet.now n ≡ true }
     ensures fits { result ≡ half_fits sheet.now n half }
 {
-    let mut c = 0;
-    while c <= n {
+    for c in 0..=n {
         if !row_fits(sheet, n, half, c) {
             return false;
         }
-        c += 1;
     }
     true
 }

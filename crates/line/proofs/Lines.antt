@@ -3,7 +3,7 @@
 use mathlib.Core.Path.{◌≡◌, refl, sym, ap, ◌∙◌}
 use mathlib.Core.Logic.{◌↔◌}
 use mathlib.Core.Bool.{Bool, true, false, not, ◌&&◌, ◌||◌}
-use mathlib.Core.List.{List, [], ◌∷◌}
+use mathlib.Core.List.{List, [], ◌∷◌, ◌++◌}
 use Rattle.std.specs.Prelude.{Option, None, Some}
 use Rattle.plain.proofs.Options.{some-ne-none}
 use Prim.Native.Nat.{ℕ, zero, suc, ◌+◌, ◌-◌, ◌≤◌, ◌<◌}
@@ -11,8 +11,11 @@ use native.Mathlib.Numerals.{add-one}
 use native.Mathlib.Decide.{dec_lt}
 use native.Mathlib.Omega.{arith}
 use lib.Dec.{leb, ltb, eqb}
-use lib.ListN.{length, get_or, drop}
-use lib.Seq.{drop-cons, drop-length}
+use lib.ListN.{length, get_or, length-append}
+use lib.Seq.{get_or_at}
+use Rattle.std.specs.List.{position, position_from}
+use Rattle.std.proofs.lemmas.Iterator.Adapters.{position_from-zero}
+use Rattle.std.specs.Prelude.{cond}
 use borrow.Author.Tests.{lt-ltb, le-ltb, ltb-true, ltb-false, le-leb, lt-leb, eq-eqb}
 use Rattle.plain.specs.Choice.{select}
 use Rattle.plain.proofs.Tests.{or-false-left, or-false-right}
@@ -63,11 +66,22 @@ module _ (b : ℕ) where
         | no d ↦ sym (allowed-printed (omega (arith, d)) to) ∙ ap not other
       ]
 
--- ---- the scan's steps
+-- ---- the scan
 
--- the first bad byte from place i on
-abbrev pub bad_from : List ℕ → ℕ → Option ℕ
-bad_from line i = first_bad (drop i line) i
+-- std's search for the first byte that fails is the definition's
+scan-from : (bs : List ℕ) (i : ℕ) → position_from (λ b. not (is_allowed b)) i bs ≡ first_bad bs i
+unfolding first_bad
+scan-from [] i = refl
+scan-from (b ∷ bs) i =
+    ap (λ (o : Option ℕ). cond (not (is_allowed b)) (Some i) o) (ap (λ (k : ℕ). position_from (λ b. not (is_allowed b)) k bs) (add-one i) ∙ scan-from bs (suc i))
+    ∙ turned (is_allowed b)
+  where
+    turned : (t : Bool) → cond (not t) (Some i) (first_bad bs (suc i)) ≡ select t (first_bad bs (suc i)) (Some i)
+    turned true = refl
+    turned false = refl
+
+pub scan-is : (bs : List ℕ) → position (λ b. not (is_allowed b)) bs ≡ first_bad bs 0
+scan-is bs = position_from-zero (λ b. not (is_allowed b)) bs ∙ scan-from bs 0
 
 none-bad : (bs : List ℕ) (i : ℕ) → ((k : ℕ) → k < length bs → is_allowed (get_or bs k 0) ≡ true) → first_bad bs i ≡ None
 unfolding first_bad
@@ -76,26 +90,8 @@ none-bad (b ∷ bs) i h =
     ap (λ (t : Bool). select t (first_bad bs (suc i)) (Some i)) (h 0 (omega arith)) ∙ none-bad bs (suc i) (λ k l. h (suc k) (omega arith))
 
 module _ (line : List ℕ) where
-  unrolled : (i : ℕ) → i < length line → bad_from line i ≡ select (is_allowed (byte_at line i)) (bad_from line (suc i)) (Some i)
-  unfolding first_bad
-  unrolled i h = ap (λ (bs : List ℕ). first_bad bs i) (drop-cons line i 0 h)
-
-  pub bad-here : (i : ℕ) → i < length line → is_allowed (byte_at line i) ≡ false → bad_from line i ≡ Some i
-  bad-here i h e = unrolled i h ∙ ap (λ (b : Bool). select b (bad_from line (suc i)) (Some i)) e
-
-  pub bad-later : (i : ℕ) → i < length line → is_allowed (byte_at line i) ≡ true → bad_from line (i + 1) ≡ bad_from line i
-  bad-later i h e =
-      ap (bad_from line) (add-one i) ∙ sym (unrolled i h ∙ ap (λ (b : Bool). select b (bad_from line (suc i)) (Some i)) e)
-
-  -- past the last byte, with none bad
-  pub bad-none : (i : ℕ) → i ≤ length line → length line ≤ i → bad_from line i ≡ bad_from line 0 → bad_from line 0 ≡ None
-  unfolding first_bad
-  bad-none i within past passed =
-      let end : i ≡ length line = omega arith in
-      sym passed ∙ ap (bad_from line) end ∙ ap (λ (bs : List ℕ). first_bad bs (length line)) (drop-length line)
-
   -- all bytes are allowed
-  pub bad-nowhere : AllowedBetween line 0 (length line) → bad_from line 0 ≡ None
+  pub bad-nowhere : AllowedBetween line 0 (length line) → first_bad line 0 ≡ None
   bad-nowhere all = none-bad line 0 (λ k below. all.each k (omega arith) below)
 
 -- ---- number and place, as the code finds them
@@ -105,7 +101,7 @@ unfolding fault_at
 verdict-long line h = sym (ap (λ (t : Bool). numbered (select t (Some 120) (or_else (first_bad line 0) (select (ends_open line) (Some (length line - 1)) None)))) (lt-ltb 120 (length line) h))
 
 module _ (line : List ℕ) (short : length line ≤ 120) where
-  settled : (o : Option ℕ) (t : Bool) → bad_from line 0 ≡ o → ends_open line ≡ t → numbered (or_else o (select t (Some (length line - 1)) None)) ≡ line_verdict line
+  settled : (o : Option ℕ) (t : Bool) → first_bad line 0 ≡ o → ends_open line ≡ t → numbered (or_else o (select t (Some (length line - 1)) None)) ≡ line_verdict line
   unfolding fault_at
   settled o t p q =
       sym
@@ -113,20 +109,31 @@ module _ (line : List ℕ) (short : length line ≤ 120) where
       ∙ ap (λ (m : Option ℕ). numbered (or_else m (select (ends_open line) (Some (length line - 1)) None))) p
       ∙ ap (λ (s : Bool). numbered (or_else o (select s (Some (length line - 1)) None))) q)
 
-  pub verdict-byte : (i : ℕ) → bad_from line 0 ≡ Some i → (3, i) ≡ line_verdict line
+  pub verdict-byte : (i : ℕ) → first_bad line 0 ≡ Some i → (3, i) ≡ line_verdict line
   verdict-byte i p = settled (Some i) (ends_open line) p refl
 
   -- with no bad byte
-  module _ (clean : bad_from line 0 ≡ None) where
-    ends : (t : Bool) → 0 < length line → is_whitespace (byte_at line (length line - 1)) ≡ t → ends_open line ≡ t
-    unfolding ends_open
-    ends t h e = ap (λ (s : Bool). s && is_whitespace (byte_at line (length line - 1))) (lt-ltb 0 (length line) h) ∙ e
+  module _ (clean : first_bad line 0 ≡ None) where
+    -- the bytes before the last one, and that
+    module _ (before : List ℕ) (last : ℕ) (parts : line ≡ before ++ (last ∷ [])) where
+      long : length line ≡ length before + 1
+      long = omega (arith, ap length parts, length-append before (last ∷ []))
 
-    pub verdict-end : 0 < length line → is_whitespace (byte_at line (length line - 1)) ≡ true → (3, length line - 1) ≡ line_verdict line
-    verdict-end h e = settled None true clean (ends true h e)
+      ends : (t : Bool) → is_whitespace last ≡ t → ends_open line ≡ t
+      unfolding ends_open
+      ends t e =
+          ap (λ (s : Bool). s && is_whitespace (byte_at line (length line - 1))) (lt-ltb 0 (length line) (omega (arith, long)))
+          ∙ ap (λ (bs : List ℕ). is_whitespace (get_or bs (length line - 1) 0)) parts
+          ∙ ap is_whitespace (get_or_at before last [] 0 (length line - 1) (omega (arith, long)))
+          ∙ e
 
-    pub verdict-good : 0 < length line → is_whitespace (byte_at line (length line - 1)) ≡ false → (0, 0) ≡ line_verdict line
-    verdict-good h e = settled None false clean (ends false h e)
+      pub verdict-end : is_whitespace last ≡ true → (3, length before) ≡ line_verdict line
+      verdict-end e =
+          let place : length before ≡ length line - 1 = omega (arith, long) in
+          ap (λ (p : ℕ). (3, p)) place ∙ settled None true clean (ends true e)
+
+      pub verdict-good : is_whitespace last ≡ false → (0, 0) ≡ line_verdict line
+      verdict-good e = settled None false clean (ends false e)
 
     pub verdict-empty : length line ≤ 0 → (0, 0) ≡ line_verdict line
     unfolding ends_open

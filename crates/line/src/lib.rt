@@ -2,7 +2,7 @@
 // makes its lines is not in the published text.
 #![tactic(auto)]
 
-ghost use Rattle.std.specs.Prelude.{◌≡◌, true, false, ◌+◌, ◌≤◌, ◌<◌, length, None, Some};
+ghost use Rattle.std.specs.Prelude.{◌≡◌, true, false, not, position, ◌+◌, ◌≤◌, ◌<◌, length, IfSome};
 ghost use Rattle.token.specs.Token.{is_whitespace};
 ghost use Rattle.line.specs.Line.{is_allowed, AllowedBetween, first_bad, line_says, line_verdict};
 
@@ -62,11 +62,8 @@ fn sixteen_odd(line: &[u8], from: usize) -> bool
     ensures plain { result ≡ false → AllowedBetween line.now from (from + 16) }
 {
     let mut odd = false;
-    let mut i: usize = 0;
-    while i < WIDE {
-        let at = from + i;
-        i += 1;
-        odd = odd | is_odd(line[at]);
+    for i in 0..WIDE {
+        odd = odd | is_odd(line[from + i]);
     }
     odd
 }
@@ -81,31 +78,30 @@ fn is_plain(line: &[u8]) -> bool
     }
     let last = line.len() - WIDE;
     let mut odd = false;
-    let mut at: usize = 0;
-    while at < last {
+    for at in (0..last).step_by(WIDE) {
         odd = odd | sixteen_odd(line, at);
-        at += WIDE;
     }
     !(odd | sixteen_odd(line, last))
 }
 
-// The place of the first byte that a line may not hold, or the line's length. Most lines are plain; one that is not, by a tab
-// or a carriage return as much as by a bad byte, is looked at byte by byte.
-fn first_bad(line: &[u8]) -> usize
-    ensures found { result < length line.now → first_bad line.now 0 ≡ Some result }
-    ensures clean { length line.now ≤ result → first_bad line.now 0 ≡ None }
+// The place of the first byte that a line may not hold, sought byte by byte.
+fn search_bad(line: &[u8]) -> Option<usize>
+    ensures value { result ≡ position (λ b. not (is_allowed b)) line.now }
+    ensures bound { IfSome result (λ place. place < length line.now) }
+{
+    line.iter().position(|b| !is_allowed(*b))
+}
+
+// The place of the first byte that a line may not hold. Most lines are plain; one that is not, by a tab or a carriage return as
+// much as by a bad byte, is looked at byte by byte.
+fn first_bad(line: &[u8]) -> Option<usize>
+    ensures value { result ≡ first_bad line.now 0 }
+    ensures bound { IfSome result (λ place. place < length line.now) }
 {
     if is_plain(line) {
-        return line.len();
+        return None;
     }
-    let mut i = 0;
-    while i < line.len() {
-        if !is_allowed(line[i]) {
-            return i;
-        }
-        i += 1;
-    }
-    i
+    search_bad(line)
 }
 
 // At most 120 bytes, each one allowed, the last no whitespace. The place is 120 if the line is too long, else the
@@ -118,16 +114,15 @@ pub fn check_line(line: &[u8]) -> Result<(), BadLine>
             place: LONGEST as u32,
         });
     }
-    let bad = first_bad(line);
-    if bad < line.len() {
-        return Err(BadLine { place: bad as u32 });
+    if let Some(place) = first_bad(line) {
+        return Err(BadLine {
+            place: place as u32,
+        });
     }
-    if 0 < line.len() {
-        let place = line.len() - 1;
-        let last = line[place];
-        if token::is_whitespace(last) {
+    if let Some((last, before)) = line.split_last() {
+        if token::is_whitespace(*last) {
             return Err(BadLine {
-                place: place as u32,
+                place: before.len() as u32,
             });
         }
     }

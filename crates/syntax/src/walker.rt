@@ -59,6 +59,8 @@ impl Walker {
     // Within the line: first the limit to its end, then the cursor to the limit.
     fn hold(self, line: &[u8]) -> Walker
         ensures answers { result ≡ held line.now self }
+        ensures cursor_le_limit { result.cursor ≤ result.limit }
+        ensures limit_in_bounds { result.limit ≤ length line.now }
     {
         let limit = least(self.limit, line.len());
         let cursor = least(self.cursor, limit);

@@ -1,13 +1,14 @@
 -- The end of a pattern: a match is completed, unless a top rule ends short of the line's end or the pool is full.
+use Rattle.std.specs.Prelude.{Ok, Err}
 use mathlib.Core.Path.{◌≡◌, refl, sym, ap, subst, ◌∙◌}
-use mathlib.Core.Bool.{true, false, not}
+use mathlib.Core.Bool.{true, false}
 use mathlib.Core.List.{List, [], ◌∷◌, ◌++◌}
 use Prim.Native.Nat.{ℕ, zero, suc, ◌≤◌, ◌<◌, min}
 use native.Mathlib.Decide.{dec_lt}
 use native.Mathlib.Omega.{arith}
 use lib.ListN.{length}
 use borrow.Author.Tests.{eq-eqb, ne_eqb, le-leb, lt-leb}
-use Rattle.plain.proofs.Tests.{not-both}
+use Rattle.std.proofs.lemmas.Bool.{false≢true}
 use Rattle.syntax.specs.Walker.{held, over}
 use Rattle.syntax.specs.declared.walker.Walker.{Walker}
 use Rattle.readings.specs.Tree.{end}
@@ -23,7 +24,6 @@ use Rattle.pool.specs.Counted.{Counted}
 use Rattle.pool.proofs.Words.{log-length}
 use Rattle.pool.proofs.Counts.{match-counted}
 use Rattle.walk.specs.declared.Place.{Place}
-use Rattle.walk.specs.declared.Walked.TheVariants.{Done, Stopped}
 use Rattle.walk.specs.declared.Refusal.TheVariants.{Full}
 use Rattle.walk.specs.Met.{finishes, finish_plan, ran, Ended, Left, went, halted}
 use Rattle.walk.proofs.Outcomes.{keep-full, keep-more}
@@ -31,16 +31,16 @@ use Rattle.walk.proofs.Logs.{made_none, made-match}
 
 -- a walker that sees the whole line is over exactly at the line's end
 module _ (line : List ℕ) (w : Walker) (h : w.cursor ≤ w.limit) (top : w.limit ≡ length line) where
-  pub not-over : not (over (held line w)) ≡ true → w.cursor ≡ length line → ⊥
+  pub not-over : over (held line w) ≡ false → w.cursor ≡ length line → ⊥
   unfolding over held
-  not-over e q = not-both e (ap not (le-leb (min w.limit (length line)) (min w.cursor (min w.limit (length line))) (omega arith)))
+  not-over e q = false≢true (sym e ∙ le-leb (min w.limit (length line)) (min w.cursor (min w.limit (length line))) (omega arith))
 
-  pub is-over : not (over (held line w)) ≡ false → w.cursor ≡ length line
+  pub is-over : over (held line w) ≡ true → w.cursor ≡ length line
   unfolding over held
   is-over e = go (dec_lt (min w.cursor (min w.limit (length line))) (min w.limit (length line)))
     where
       go : Dec (min w.cursor (min w.limit (length line)) < min w.limit (length line)) → w.cursor ≡ length line
-      go (yes l) = absurd (not-both (ap not (lt-leb (min w.limit (length line)) (min w.cursor (min w.limit (length line))) l)) e)
+      go (yes l) = absurd (false≢true (sym (lt-leb (min w.limit (length line)) (min w.cursor (min w.limit (length line))) l) ∙ e))
       go (no l) = omega (arith, l)
 
 module _ (n c : ℕ) (depth : ℕ) where
@@ -67,7 +67,7 @@ module _ (n c left : ℕ) (place : Place) (count : ℕ) (pool : Pool) (store : L
   unfolding finish_plan run
   nothing-found e h = rw (finish_plan, ends-short n c place.depth e h)
 
-  pub finish-short : place.depth ≡ 0 → (c ≡ n → ⊥) → (t : List ℕ) → Ended t store pool.used place count → Left t planned place log store (Done left pool)
+  pub finish-short : place.depth ≡ 0 → (c ≡ n → ⊥) → (t : List ℕ) → Ended t store pool.used place count → Left t planned place log store (Ok (record { left = left; pool = pool }))
   finish-short e h t ended = went (record {
     founds = [];
     done_with = nothing-found e h;
@@ -79,12 +79,12 @@ module _ (n c left : ℕ) (place : Place) (count : ℕ) (pool : Pool) (store : L
   unfolding finish_plan
   completes h = rw (finish_plan, ends-well n c place.depth h)
 
-  pub finish-full : (store' : List ℕ) → (place.depth ≡ 0 → c ≡ n) → pool.used ≡ 4096 → (t : List ℕ) → Ended t store pool.used place count → Left t planned place log store' (Stopped Full left)
+  pub finish-full : (store' : List ℕ) → (place.depth ≡ 0 → c ≡ n) → pool.used ≡ 4096 → (t : List ℕ) → Ended t store pool.used place count → Left t planned place log store' (Err (record { why = Full; left = left }))
   finish-full store' h e t ended = halted (completes h ∙ keep-full (give ((end, c) ∷ [])) left pool.used e)
 
   pub finish-kept : (store' : List ℕ) (more : Pool) → (place.depth ≡ 0 → c ≡ n) → place.args ≤ pool.used
       → Added pool.used store store' (Completed place.depth place.set place.rule place.args c count) more
-      → (t : List ℕ) → Ended t store pool.used place count → Left t planned place log store' (Done left more)
+      → (t : List ℕ) → Ended t store pool.used place count → Left t planned place log store' (Ok (record { left = left; pool = more }))
   unfolding run
   finish-kept store' more h few a t ended = went (record {
     founds = (end, c) ∷ [];

@@ -1,5 +1,6 @@
 -- The expression step's loop over candidate ends. The loop knows the useful place and the ends, as the code holds them; with
 -- these its turns are the plan's.
+use Rattle.std.specs.Prelude.{Result, Ok, Err}
 use mathlib.Core.Path.{◌≡◌, refl, sym, ap, subst, ◌∙◌}
 use mathlib.Core.List.{List, [], ◌∷◌, ◌++◌, map, Memᴰ}
 use Prim.Native.Nat.{ℕ, ◌+◌, ◌≤◌, ◌<◌, min}
@@ -10,6 +11,7 @@ use Rattle.syntax.specs.Walker.{held, moved_to, useful}
 use Rattle.syntax.proofs.Useful.{index-set}
 use Rattle.syntax.specs.declared.walker.Walker.{Walker}
 use Rattle.defs.specs.Table.{parts_between}
+use Rattle.defs.specs.declared.ruledef.Part.{Part}
 use Rattle.readings.specs.Scene.{Scene, scene_of}
 use Rattle.readings.specs.Plan.{Plan, done, stop, run, each}
 use Rattle.readings.specs.Walk.{Found, ends}
@@ -27,12 +29,11 @@ use Rattle.pool.specs.Log.{log_of, ArgumentFits, Added}
 use Rattle.pool.specs.Meaning.{Stored, entries}
 use Rattle.pool.specs.Counted.{Counted}
 use Rattle.walk.specs.declared.Place.{Place}
+use Rattle.walk.specs.declared.Stopped.{Stopped}
 use Rattle.walk.specs.declared.Walked.{Walked}
-use Rattle.walk.specs.declared.Walked.TheVariants.{Done, Stopped}
-use Rattle.walk.specs.declared.Refusal.{Refusal}
 use Rattle.walk.specs.declared.Refusal.TheVariants.{Full}
 use Rattle.walk.specs.Met.{rule_plan, expr_plan, expr_turn, ran, Ready, to_come, from_expr, Stands, Made, whole_at, Left, went, halted, after_arg}
-use Rattle.walk.proofs.Held.{held_at, held-is, member-at}
+use Rattle.walk.proofs.Held.{held-is, member-at}
 use Rattle.walk.proofs.Turns.{turn, turn-full, turn-stored}
 use Rattle.walk.proofs.Loops.{Did, did_none, did-same, did-longer, index-end, index-stop, next-taken}
 use Rattle.walk.proofs.Turned.{turned, turn-refused}
@@ -47,13 +48,22 @@ abbrev pub expr_from : List ℕ → List ℕ → List ℕ → Place → ℕ → 
 expr_from t line sheet place l g e = turn [] (expr_arg (min e g) e) (rule_plan t line sheet place.depth place.at place.end l e)
 
 -- the ends that the code holds
-abbrev pub held_in : Ends → List ℕ
-held_in es = take es.count es.places
+module _ (s : Scene) (l c : ℕ) (ps : List Part) {es : Ends} (is : es ≡ held_ends (ends s l c ps)) where
+  few : length (ends s l c ps) ≤ 3
+  few = ends-few s l c ps
+
+  pub ends-held : take es.count es.places ≡ ends s l c ps
+  unfolding held_ends
+  ends-held = ap (λ (e : Ends). take e.count e.places) is ∙ held-is 3 (ends s l c ps) few
+
+  pub ends-three : (es.count ≤ 3) × (length es.places ≡ 3)
+  unfolding held_ends
+  ends-three = (omega (arith, ap (λ (e : Ends). e.count) is, few), ap (λ (e : Ends). length e.places) is ∙ listed-length 3 (λ j. get_or (ends s l c ps) j 0))
 
 -- the loop's invariant
-abbrev pub ExprDid : List ℕ → List ℕ → List ℕ → Place → ℕ → ℕ → Ends → ℕ → ℕ → List ℕ → ℕ → ℕ → ℕ → List ℕ → Type 0
+abbrev pub ExprDid : List ℕ → List ℕ → List ℕ → Place → ℕ → ℕ → List ℕ → ℕ → ℕ → List ℕ → ℕ → ℕ → ℕ → List ℕ → Type 0
 ExprDid t line sheet place l g es v₀ u₀ store₀ i v u store =
-    Did t (expr_from t line sheet place l g) (whole_at place (log_of store₀ u₀)) place.depth (take i (held_in es)) v₀ u₀ store₀ v u store
+    Did t (expr_from t line sheet place l g) (whole_at place (log_of store₀ u₀)) place.depth (take i es) v₀ u₀ store₀ v u store
 
 -- where a move to an end below the limit leads
 pub moved-there : {t line sheet starts store₀ : List ℕ} {place : Place} {w : Walker} {pool : Pool} → Ready t line sheet starts store₀ place w pool
@@ -94,7 +104,7 @@ stands_after {t} r {store} {more} {e} {n} {next} next-is h is x =
     (subst (λ (q : Place). Stands t store more.used q n (to_come t q) e) (sym next-is) x)
 
 -- what a walk from the next place left
-pub left-after-arg : (t line sheet : List ℕ) (place : Place) (more : Pool) (l e v : ℕ) {log : List Record} {store : List ℕ} {r : Walked} {next : Place} → next ≡ after_arg place more.used
+pub left-after-arg : (t line sheet : List ℕ) (place : Place) (more : Pool) (l e v : ℕ) {log : List Record} {store : List ℕ} {r : Result Walked Stopped} {next : Place} → next ≡ after_arg place more.used
     → {moved : Walker} → moved ≡ record { cursor = e; limit = l } → Left t (ran (rule_plan t line sheet next.depth next.at next.end moved.limit moved.cursor) v more) next log store r
     → Left t (ran (rule_plan t line sheet place.depth place.at place.end l e) v more) (after_arg place more.used) log store r
 left-after-arg t line sheet place more l e v {log = log} {store = store} {r = r} {next = next} n is m =
@@ -102,52 +112,30 @@ left-after-arg t line sheet place more l e v {log = log} {store = store} {r = r}
     (subst (λ (w : Walker). Left t (ran (rule_plan t line sheet next.depth next.at next.end w.limit w.cursor) v more) next log store r) is m)
 
 module _ {t line sheet starts store₀ : List ℕ} {place : Place} {w : Walker} {pool : Pool} (ready : Ready t line sheet starts store₀ place w pool) (visits : ℕ)
-    (g : ℕ) (g-is : g ≡ useful line (held line w)) (es : Ends) (es-is : es ≡ held_ends (ends (scene_of t line sheet) w.limit w.cursor (parts_between t place.at place.end))) where
+    (g : ℕ) (g-is : g ≡ useful line (held line w)) (es : List ℕ) (es-are : es ≡ ends (scene_of t line sheet) w.limit w.cursor (parts_between t place.at place.end)) where
   abbrev s : Scene
   s = scene_of t line sheet
 
   abbrev xs : List ℕ
   xs = ends s w.limit w.cursor (parts_between t place.at place.end)
 
-  few : length xs ≤ 3
-  few = ends-few s w.limit w.cursor (parts_between t place.at place.end)
-
-  count-is : es.count ≡ length xs
-  unfolding held_ends
-  count-is = ap (λ (e : Ends). e.count) es-is
-
-  places-are : held_in es ≡ xs
-  unfolding held_ends
-  places-are = ap held_in es-is ∙ held-is 3 xs few
-
-  place_is : (i : ℕ) → i < es.count → get_or es.places i 0 ≡ get_or (held_in es) i 0
-  unfolding held_ends
-  place_is i h = ap (λ (e : Ends). get_or e.places i 0) es-is ∙ held_at 3 xs few i (omega (arith, count-is)) ∙ ap (λ (l : List ℕ). get_or l i 0) (sym places-are)
-
-  long : length (held_in es) ≡ es.count
-  long = ap length places-are ∙ sym count-is
-
-  pub ends-three : (es.count ≤ 3) × (length es.places ≡ 3)
-  unfolding held_ends
-  ends-three = (omega (arith, count-is, few), ap (λ (e : Ends). length e.places) es-is ∙ listed-length 3 (λ j. get_or xs j 0))
-
   -- the plan with what the loop knows
   plan-is : ran (expr_plan t line sheet place.depth place.at place.end w.limit w.cursor) visits pool
-      ≡ run (each (held_in es) (expr_from t line sheet place w.limit g)) visits pool.used
+      ≡ run (each es (expr_from t line sheet place w.limit g)) visits pool.used
   unfolding expr_plan expr_turn rule_plan scene_of
   plan-is =
       ap (λ (at : ℕ → ℕ). run (each xs (λ e. turn [] (expr_arg (at (min e (useful line (held line w)))) (at e)) (rule_plan t line sheet place.depth place.at place.end w.limit e))) visits pool.used) alone
       ∙ ap (λ (h : ℕ). run (each xs (expr_from t line sheet place w.limit h)) visits pool.used) (sym g-is)
-      ∙ ap (λ (l : List ℕ). run (each l (expr_from t line sheet place w.limit g)) visits pool.used) (sym places-are)
+      ∙ ap (λ (l : List ℕ). run (each l (expr_from t line sheet place w.limit g)) visits pool.used) (sym es-are)
 
   pub expr-start : ExprDid t line sheet place w.limit g es visits pool.used store₀ 0 visits pool.used store₀
   expr-start = did_none t (expr_from t line sheet place w.limit g) (whole_at place (log_of store₀ pool.used)) place.depth visits pool.used store₀ ready.stored ready.counted
 
   module _ {i v u : ℕ} {store : List ℕ} (did : ExprDid t line sheet place w.limit g es visits pool.used store₀ i v u store) where
-    pub expr-end : (has : Pool) → has.used ≡ u → es.count ≤ i
-        → Left t (ran (expr_plan t line sheet place.depth place.at place.end w.limit w.cursor) visits pool) place (log_of store₀ pool.used) store (Done v has)
+    pub expr-end : (has : Pool) → has.used ≡ u → length es ≤ i
+        → Left t (ran (expr_plan t line sheet place.depth place.at place.end w.limit w.cursor) visits pool) place (log_of store₀ pool.used) store (Ok (record { left = v; pool = has }))
     expr-end has e h =
-        let all = index-end (expr_from t line sheet place w.limit g) (whole_at place (log_of store₀ pool.used)) place.depth (held_in es) i did (omega (arith, long)) in
+        let all = index-end (expr_from t line sheet place w.limit g) (whole_at place (log_of store₀ pool.used)) place.depth es i did h in
         went
         (record {
           founds = all.gave;
@@ -156,14 +144,11 @@ module _ {t line sheet starts store₀ : List ℕ} {place : Place} {w : Walker} 
           counted = subst (λ (n : ℕ). Counted (scene_of t [] []) (log_of store n)) (sym e) all.counted;
         })
 
-    module _ (h : i < es.count) (e : ℕ) (is : e ≡ get_or es.places i 0) where
-      is-next : e ≡ get_or (held_in es) i 0
-      is-next = is ∙ place_is i h
-
+    module _ (h : i < length es) (e : ℕ) (is : e ≡ get_or es i 0) where
       pub expr-within : (w.cursor ≤ e) × (e ≤ w.limit)
       expr-within =
           ends-within s (lawful t line sheet ready.extents) w.limit w.cursor (parts_between t place.at place.end) ready.cursor e
-          (subst (λ (n : ℕ). Memᴰ n xs) (sym (is-next ∙ ap (λ (l : List ℕ). get_or l i 0) places-are)) (member-at xs i (omega (arith, count-is))))
+          (subst (λ (n : ℕ). Memᴰ n xs) (sym (is ∙ ap (λ (l : List ℕ). get_or l i 0) es-are)) (member-at xs i (omega (arith, ap length es-are))))
 
       pub expr-fits : {st n : ℕ} → st ≡ min e g → n ≤ w.cursor → ArgumentFits (expr_arg st e) place.args n
       expr-fits st-is small = record {
@@ -175,10 +160,10 @@ module _ {t line sheet starts store₀ : List ℕ} {place : Place} {w : Walker} 
       }
 
       stops : {n l : ℕ} → run (expr_from t line sheet place w.limit g e) v u ≡ stop n l → ran (expr_plan t line sheet place.depth place.at place.end w.limit w.cursor) visits pool ≡ stop n l
-      stops q = plan-is ∙ index-stop (expr_from t line sheet place w.limit g) (whole_at place (log_of store₀ pool.used)) place.depth (held_in es) i did (omega (arith, long)) e 0 is-next q
+      stops q = plan-is ∙ index-stop (expr_from t line sheet place w.limit g) (whole_at place (log_of store₀ pool.used)) place.depth es i did h e 0 is q
 
       pub expr-full : (store' : List ℕ) → u ≡ 4096
-          → Left t (ran (expr_plan t line sheet place.depth place.at place.end w.limit w.cursor) visits pool) place (log_of store₀ pool.used) store' (Stopped Full v)
+          → Left t (ran (expr_plan t line sheet place.depth place.at place.end w.limit w.cursor) visits pool) place (log_of store₀ pool.used) store' (Err (record { why = Full; left = v }))
       expr-full store' q = halted (stops (turn-full [] (expr_arg (min e g) e) (rule_plan t line sheet place.depth place.at place.end w.limit e) v u q))
 
       module _ (st : ℕ) (st-is : st ≡ min e g) {n : ℕ} (store' : List ℕ) (more : Pool) (added : Added u store store' (Kept (expr_arg st e) place.args n) more) where
@@ -209,19 +194,19 @@ module _ {t line sheet starts store₀ : List ℕ} {place : Place} {w : Walker} 
             (turn-stored place (expr_arg st e) n (rule_plan t line sheet place.depth place.at place.end w.limit e) v u store store' more did.stored
             (omega (arith, ready.last, did-longer did ready.stored)) tt added z) counts
 
-        module _ {next : Place} (next-is : next ≡ after_arg place more.used) {moved : Walker} (moved-is : moved ≡ moved_to line e (held line w)) {r : Walked} {store'' : List ℕ}
+        module _ {next : Place} (next-is : next ≡ after_arg place more.used) {moved : Walker} (moved-is : moved ≡ moved_to line e (held line w)) {r : Result Walked Stopped} {store'' : List ℕ}
             (m : Left t (ran (rule_plan t line sheet next.depth next.at next.end moved.limit moved.cursor) v more) next (log_of store' more.used) store'' r) where
           from-there : Left t (ran (rule_plan t line sheet place.depth place.at place.end w.limit e) v more) (after_arg place more.used) (log_of store' more.used) store'' r
           from-there = left-after-arg t line sheet place more w.limit e v next-is (moved-is ∙ moved-there ready e expr-within.1) m
 
-          pub expr-again : {l : ℕ} {q : Pool} → r ≡ Done l q → length store'' ≡ 4096 → ExprDid t line sheet place w.limit g es visits pool.used store₀ (i + 1) l q.used store''
+          pub expr-again : {x : Walked} → r ≡ Ok x → length store'' ≡ 4096 → ExprDid t line sheet place w.limit g es visits pool.used store₀ (i + 1) x.left x.pool.used store''
           expr-again x z =
-              did-same (ap (λ (n : ℕ). take i (held_in es) ++ (n ∷ [])) is-next ∙ sym (next-taken (held_in es) 0 i (omega (arith, long))))
+              did-same (ap (λ (n : ℕ). take i es ++ (n ∷ [])) is ∙ sym (next-taken es 0 i h))
               (turned (expr_from t line sheet place w.limit g) place did ready.stored ready.last (expr_arg st e) n
               (rule_plan t line sheet place.depth place.at place.end w.limit e) e same_turn store' more tt added from-there x z)
 
-          pub expr-halt : {why : Refusal} {l : ℕ} → r ≡ Stopped why l
-              → Left t (ran (expr_plan t line sheet place.depth place.at place.end w.limit w.cursor) visits pool) place (log_of store₀ pool.used) store'' (Stopped why l)
+          pub expr-halt : {x : Stopped} → r ≡ Err x
+              → Left t (ran (expr_plan t line sheet place.depth place.at place.end w.limit w.cursor) visits pool) place (log_of store₀ pool.used) store'' (Err x)
           expr-halt x =
               halted
               (stops

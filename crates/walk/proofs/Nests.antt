@@ -1,5 +1,6 @@
 -- The nested step's last loop, over the records that its passes made, and the step as a whole. The matches of depth one more
 -- among those records are what the passes found, in order; of those that are the same the first goes on.
+use Rattle.std.specs.Prelude.{Option, Some, None, Result, Ok, Err}
 use mathlib.Core.Path.{◌≡◌, refl, sym, ap, subst, ◌∙◌}
 use mathlib.Core.Bool.{Bool, true, false, not, ◌&&◌}
 use mathlib.Core.List.Memᴰ
@@ -27,8 +28,6 @@ use Rattle.readings.proofs.Runs.{run-done}
 use Rattle.readings.proofs.Firsts.{firsts-mem}
 use Rattle.readings.proofs.Walks.{under-lists}
 use Rattle.readings.proofs.Spans.{from-within, from-few}
-use Rattle.lookahead.specs.declared.Limits.{Limits}
-use Rattle.lookahead.specs.Held.{held_limits}
 use Rattle.lookahead.proofs.Choices.{limits-within}
 use Rattle.pool.specs.declared.ArgumentKind.TheVariants.{Nested}
 use Rattle.pool.specs.declared.Argument.{Argument}
@@ -38,15 +37,15 @@ use Rattle.pool.specs.declared.Record.TheVariants.{Kept}
 use Rattle.pool.specs.Log.{decode, log_of, count_in, ArgumentFits, Added}
 use Rattle.pool.specs.Meaning.{none, Entry, argued, completed, tree_at, meaning, meanings, gathered, Stored, entries}
 use Rattle.pool.specs.Counted.{Counted}
+use Rattle.plain.proofs.Options.{none-ne-some, some-ne-none, some_inj}
 use Rattle.pool.proofs.Words.{log-length}
 use Rattle.pool.proofs.Counts.{count-read}
 use Rattle.pool.proofs.Gathers.{entries-length}
 use Rattle.pool.proofs.Meanings.{meanings-more, gathered-append, tree-stays}
 use Rattle.walk.specs.declared.Place.{Place}
 use Rattle.walk.specs.declared.Inner.{Inner}
-use Rattle.walk.specs.declared.Inner.TheVariants.{Ends, Nothing}
+use Rattle.walk.specs.declared.Stopped.{Stopped}
 use Rattle.walk.specs.declared.Walked.{Walked}
-use Rattle.walk.specs.declared.Walked.TheVariants.{Done, Stopped}
 use Rattle.walk.specs.declared.Refusal.{Refusal}
 use Rattle.walk.specs.declared.Refusal.TheVariants.{Deep}
 use Rattle.walk.specs.Met.{rule_plan, nested_plan, nest_turn, ran, Ready, to_come, from_nest, Stands, Made, whole_at, number_of, Left, went, halted, after_arg, made, fresh_of, InnerOf, new_match, no_match}
@@ -57,7 +56,7 @@ use Rattle.walk.proofs.Loops.{Did, did_none, did-same, did-stop, did-longer, ind
 use Rattle.walk.proofs.Turned.{turned, turn-refused, whole-stays}
 use Rattle.walk.proofs.Standing.{stands-later, ruleset_in, adds_of, parameter_of, kept-stands, kept-counted}
 use Rattle.walk.proofs.Exprs.{moved-there, ready-after, stands_after, left-after-arg}
-use Rattle.walk.proofs.Rules.{itself, limits_in, under_limit, LimitsDid, limits-listed, limit-long}
+use Rattle.walk.proofs.Rules.{itself, under_limit, LimitsDid}
 
 -- ---- one entry more
 
@@ -195,8 +194,8 @@ module _ {t line sheet starts store₀ : List ℕ} {place : Place} {w : Walker} 
     unfolding es₁
     next = firsts-next es₁ (d + 1) pool.used m n.low (omega (arith, long))
 
-    module _ (found : Inner) (inner : InnerOf (d + 1) (entries store u) pool.used m (decode (get_or store m 0)) found) where
-      pub nest-skip : found ≡ Nothing → NestDid t line sheet place w.limit g pool.used v₁ u₁ store₁ (m + 1) v u store
+    module _ (found : Option Inner) (inner : InnerOf (d + 1) (entries store u) pool.used m (decode (get_or store m 0)) found) where
+      pub nest-skip : found ≡ None → NestDid t line sheet place w.limit g pool.used v₁ u₁ store₁ (m + 1) v u store
       nest-skip e = record {
         low = omega (arith, n.low);
         high = omega arith;
@@ -204,28 +203,28 @@ module _ {t line sheet starts store₀ : List ℕ} {place : Place} {w : Walker} 
         did = did-same (sym (next ∙ ap (λ (l : List Match). inners_of store₁ u₁ d pool.used m ++ l) (sym fresh-is ∙ nothing found inner e) ∙ append-nil (inners_of store₁ u₁ d pool.used m))) n.did;
       }
         where
-          nothing : (found : Inner) → InnerOf (d + 1) (entries store u) pool.used m (decode (get_or store m 0)) found → found ≡ Nothing
+          nothing : (found : Option Inner) → InnerOf (d + 1) (entries store u) pool.used m (decode (get_or store m 0)) found → found ≡ None
               → fresh_of (d + 1) (gathered (d + 1) (made (entries store u) pool.used m)) (get_or (entries store u) m (argued none)) ≡ []
           nothing _ (no_match q) e = q
-          nothing _ (new_match {e = c} b _ q) e = let z : ◌≡◌ {A = ℕ} 0 1 = cc in absurd (omega arith)
+          nothing _ (new_match b _ q) e = absurd (some-ne-none _ e)
 
-      module _ (e k : ℕ) (is : found ≡ Ends e k) where
+      module _ (e k : ℕ) (is : found ≡ Some (record { end = e; count = k })) where
         pub nest-small : e < 128
         nest-small = go found inner is
           where
-            go : (found : Inner) → InnerOf (d + 1) (entries store u) pool.used m (decode (get_or store m 0)) found → found ≡ Ends e k → e < 128
-            go _ (new_match {e = c} b _ q) i = let z : c ≡ e = cc in omega arith
-            go _ (no_match q) i = let z : ◌≡◌ {A = ℕ} 0 1 = cc in absurd (omega arith)
+            go : (found : Option Inner) → InnerOf (d + 1) (entries store u) pool.used m (decode (get_or store m 0)) found → found ≡ Some (record { end = e; count = k }) → e < 128
+            go _ (new_match {e = c} b _ q) i = let z : c ≡ e = ap (λ (x : Inner). x.end) (some_inj i) in omega arith
+            go _ (no_match q) i = absurd (none-ne-some _ i)
 
         -- its record has its own count
         pub inner-counts : k ≡ exact_count (scene_of t [] []) (tree_at (entries store u) m)
         inner-counts = go found inner is
           where
-            go : (found : Inner) → InnerOf (d + 1) (entries store u) pool.used m (decode (get_or store m 0)) found → found ≡ Ends e k → k ≡ exact_count (scene_of t [] []) (tree_at (entries store u) m)
+            go : (found : Option Inner) → InnerOf (d + 1) (entries store u) pool.used m (decode (get_or store m 0)) found → found ≡ Some (record { end = e; count = k }) → k ≡ exact_count (scene_of t [] []) (tree_at (entries store u) m)
             go _ (new_match {e = c} b q _) i =
-                let z : count_in (decode (get_or store m 0)) ≡ k = cc in
-                sym z ∙ count-read (scene_of t [] []) store u n.did.stored n.did.counted m (omega (arith, nest-used)) refl (λ p. omega (arith, q))
-            go _ (no_match q) i = let z : ◌≡◌ {A = ℕ} 0 1 = cc in absurd (omega arith)
+                let z : count_in (decode (get_or store m 0)) ≡ k = ap (λ (x : Inner). x.count) (some_inj i) in
+                sym z ∙ count-read (scene_of t [] []) store u n.did.stored n.did.counted m (omega (arith, nest-used)) refl q
+            go _ (no_match q) i = absurd (none-ne-some _ i)
 
         -- the same in the store before the loop
         pub inner-counts-first : k ≡ exact_count (scene_of t [] []) (tree_at (entries store₁ u₁) m)
@@ -235,10 +234,10 @@ module _ {t line sheet starts store₀ : List ℕ} {place : Place} {w : Walker} 
         new-here : fresh_of (d + 1) (gathered (d + 1) (made es₁ pool.used m)) (get_or es₁ m (argued none)) ≡ (tree_at es₁ m, e) ∷ []
         new-here = sym fresh-is ∙ go found inner is
           where
-            go : (found : Inner) → InnerOf (d + 1) (entries store u) pool.used m (decode (get_or store m 0)) found → found ≡ Ends e k
+            go : (found : Option Inner) → InnerOf (d + 1) (entries store u) pool.used m (decode (get_or store m 0)) found → found ≡ Some (record { end = e; count = k })
                 → fresh_of (d + 1) (gathered (d + 1) (made (entries store u) pool.used m)) (get_or (entries store u) m (argued none)) ≡ (tree_at es₁ m, e) ∷ []
-            go _ (new_match {e = c} b _ q) i = let z : c ≡ e = cc in q ∙ ap (λ (t : Tree). (t, c) ∷ []) tree_is ∙ ap (λ (n : ℕ). (tree_at es₁ m, n) ∷ []) z
-            go _ (no_match q) i = let z : ◌≡◌ {A = ℕ} 0 1 = cc in absurd (omega arith)
+            go _ (new_match {e = c} b _ q) i = let z : c ≡ e = ap (λ (x : Inner). x.end) (some_inj i) in q ∙ ap (λ (t : Tree). (t, c) ∷ []) tree_is ∙ ap (λ (n : ℕ). (tree_at es₁ m, n) ∷ []) z
+            go _ (no_match q) i = absurd (none-ne-some _ i)
 
         pub nest-fits : {st c : ℕ} → st ≡ min e g → c ≤ e → ArgumentFits (nest_arg st e m) place.args c
         nest-fits st-is small = record {
@@ -308,12 +307,12 @@ module _ {t line sheet starts store₀ : List ℕ} {place : Place} {w : Walker} 
               ready-after ready store' more e next b
               (turn-stored place (nest_arg st e m) c p v u store store' more n.did.stored (omega (arith, few, nest-used)) inner-before added z) counts
 
-          module _ {next_place : Place} (next-is : next_place ≡ after_arg place more.used) (b : e ≤ w.limit) {moved : Walker} (moved-is : moved ≡ moved_to line e (held line w)) {r : Walked} {store'' : List ℕ}
+          module _ {next_place : Place} (next-is : next_place ≡ after_arg place more.used) (b : e ≤ w.limit) {moved : Walker} (moved-is : moved ≡ moved_to line e (held line w)) {r : Result Walked Stopped} {store'' : List ℕ}
               (got : Left t (ran (rule_plan t line sheet next_place.depth next_place.at next_place.end moved.limit moved.cursor) v more) next_place (log_of store' more.used) store'' r) where
             from-there : Left t (ran p v more) (after_arg place more.used) (log_of store' more.used) store'' r
             from-there = left-after-arg t line sheet place more w.limit e v next-is (moved-is ∙ moved-there ready e b) got
 
-            pub nest-again : {l : ℕ} {q : Pool} → r ≡ Done l q → length store'' ≡ 4096 → NestDid t line sheet place w.limit g pool.used v₁ u₁ store₁ (m + 1) l q.used store''
+            pub nest-again : {y : Walked} → r ≡ Ok y → length store'' ≡ 4096 → NestDid t line sheet place w.limit g pool.used v₁ u₁ store₁ (m + 1) y.left y.pool.used store''
             nest-again x z = record {
               low = omega (arith, n.low);
               high = omega arith;
@@ -322,7 +321,7 @@ module _ {t line sheet starts store₀ : List ℕ} {place : Place} {w : Walker} 
                   (turned f place n.did n.start few (nest_arg st e m) c p (tree_at es₁ m, e) (same_turn st-is) store' more inner-before added from-there x z);
             }
 
-            pub nest-halt : {why : Refusal} {l : ℕ} → r ≡ Stopped why l → run (each (inners_of store₁ u₁ d pool.used u₁) f) v₁ u₁ ≡ stop (number_of why) l
+            pub nest-halt : {y : Stopped} → r ≡ Err y → run (each (inners_of store₁ u₁ d pool.used u₁) f) v₁ u₁ ≡ stop (number_of y.why) y.left
             nest-halt x = stops (turn-refused f place n.did n.start few (nest_arg st e m) c p (tree_at es₁ m, e) (same_turn st-is) store' more inner-before added from-there x)
 
 -- ---- the whole step
@@ -331,7 +330,7 @@ module _ {t line sheet starts store₀ : List ℕ} {place : Place} {w : Walker} 
   abbrev planned : Outcome (List Found)
   planned = ran (nested_plan t line sheet place.depth group place.at place.end w.limit w.cursor) visits pool
 
-  pub nested-deep : 16 ≤ place.depth → (store : List ℕ) → Left t planned place (log_of store₀ pool.used) store (Stopped Deep visits)
+  pub nested-deep : 16 ≤ place.depth → (store : List ℕ) → Left t planned place (log_of store₀ pool.used) store (Err (record { why = Deep; left = visits }))
   unfolding nested_plan under run each limits ◌then◌
   nested-deep h store =
       let e : depths - place.depth ≡ 0 = omega arith in
@@ -339,7 +338,7 @@ module _ {t line sheet starts store₀ : List ℕ} {place : Place} {w : Walker} 
       each (firsts same_match is) (nest_turn t line sheet place.depth (parts_between t place.at place.end) w.limit w.cursor)) visits pool.used) e)
 
   module _ (fits : group < 32) (deep : place.depth < 16) (begin count : ℕ) (begin-is : begin ≡ get_or starts group 0) (count-is : count ≡ get_or starts (group + 1) 0 - begin)
-      (g : ℕ) (g-is : g ≡ useful line (held line w)) (ls : Limits) (ls-is : ls ≡ held_limits (limits (scene_of t line []) w.limit w.cursor (parts_between t place.at place.end))) where
+      (g : ℕ) (g-is : g ≡ useful line (held line w)) (ls : List ℕ) (ls-are : ls ≡ limits (scene_of t line sheet) w.limit w.cursor (parts_between t place.at place.end)) where
     abbrev k : ℕ
     k = place.depth
 
@@ -356,17 +355,17 @@ module _ {t line sheet starts store₀ : List ℕ} {place : Place} {w : Walker} 
         ∙ ap (λ (h : ℕ). run (passes then λ is. each (firsts same_match is) (nest_from t line sheet place w.limit h)) visits pool.used) (sym g-is)
 
     -- a pass was refused
-    pub nested-stop : (store : List ℕ) {why : Refusal} {l : ℕ} → run (each (limits_in ls) (under_limit t line sheet k group w.cursor)) visits pool.used ≡ stop (number_of why) l
-        → Left t planned place (log_of store₀ pool.used) store (Stopped why l)
+    pub nested-stop : (store : List ℕ) {why : Refusal} {l : ℕ} → run (each ls (under_limit t line sheet k group w.cursor)) visits pool.used ≡ stop (number_of why) l
+        → Left t planned place (log_of store₀ pool.used) store (Err (record { why = why; left = l }))
     nested-stop store e =
-        halted (plan-is ∙ then-stop goes_on passes visits pool.used (sym (ap (λ o. o visits pool.used) (limits-listed ready group fits deep begin count begin-is count-is ls ls-is)) ∙ e))
+        halted (plan-is ∙ then-stop goes_on passes visits pool.used (sym (ap (λ (l : List ℕ). run (each l (under_limit t line sheet k group w.cursor)) visits pool.used) ls-are) ∙ e))
 
-    module _ {i v₁ u₁ : ℕ} {store₁ : List ℕ} (first-loop : LimitsDid t line sheet k group w.cursor ls visits pool.used store₀ i v₁ u₁ store₁) (over : ls.count ≤ i) where
-      all : Did t (under_limit t line sheet k group w.cursor) itself (k + 1) (limits_in ls) visits pool.used store₀ v₁ u₁ store₁
-      all = index-end (under_limit t line sheet k group w.cursor) itself (k + 1) (limits_in ls) i first-loop (omega (arith, limit-long ready group fits deep begin count begin-is count-is ls ls-is))
+    module _ {i v₁ u₁ : ℕ} {store₁ : List ℕ} (first-loop : LimitsDid t line sheet k group w.cursor ls visits pool.used store₀ i v₁ u₁ store₁) (over : length ls ≤ i) where
+      all : Did t (under_limit t line sheet k group w.cursor) itself (k + 1) ls visits pool.used store₀ v₁ u₁ store₁
+      all = index-end (under_limit t line sheet k group w.cursor) itself (k + 1) ls i first-loop over
 
       passed : run passes visits pool.used ≡ done v₁ u₁ all.gave
-      passed = sym (ap (λ o. o visits pool.used) (limits-listed ready group fits deep begin count begin-is count-is ls ls-is)) ∙ all.done_with
+      passed = sym (ap (λ (l : List ℕ). run (each l (under_limit t line sheet k group w.cursor)) visits pool.used) ls-are) ∙ all.done_with
 
       pub nested-grown : pool.used ≤ u₁
       nested-grown = did-longer all ready.stored
@@ -411,11 +410,11 @@ module _ {t line sheet starts store₀ : List ℕ} {place : Place} {w : Walker} 
 
       -- a turn was refused
       pub nested-halt : (store : List ℕ) {why : Refusal} {l : ℕ} → run (each (inners_of store₁ u₁ k pool.used u₁) (nest_from t line sheet place w.limit g)) v₁ u₁ ≡ stop (number_of why) l
-          → Left t planned place (log_of store₀ pool.used) store (Stopped why l)
+          → Left t planned place (log_of store₀ pool.used) store (Err (record { why = why; left = l }))
       nested-halt store e = halted (onward ∙ e)
 
       pub nested-done : {m v : ℕ} {store : List ℕ} (has : Pool) → NestDid t line sheet place w.limit g pool.used v₁ u₁ store₁ m v has.used store → u₁ ≤ m
-          → Left t planned place (log_of store₀ pool.used) store (Done v has)
+          → Left t planned place (log_of store₀ pool.used) store (Ok (record { left = v; pool = has }))
       nested-done {m} {v} {store} has n h =
           let q : m ≡ u₁ = omega (arith, n.high) in
           let last : Did t (nest_from t line sheet place w.limit g) (whole_at place (log_of store₁ u₁)) k (inners_of store₁ u₁ k pool.used u₁) v₁ u₁ store₁ v has.used store

@@ -2,7 +2,7 @@
 -- no record has as its invariant that the plan from here, with the visits left, comes to what it comes to from the start.
 use mathlib.Core.Path.{◌≡◌, refl, sym, ap, subst, ◌∙◌}
 use mathlib.Core.Bool.{Bool, true, false, ◌&&◌}
-use Rattle.std.specs.Prelude.{Option, None, Some}
+use Rattle.std.specs.Prelude.{Option, None, Some, Result, Ok, Err}
 use mathlib.Core.List.{List, [], ◌∷◌}
 use Prim.Native.Nat.{ℕ, ◌+◌, ◌-◌, ◌≤◌, ◌<◌}
 use native.Mathlib.Omega.{arith}
@@ -32,8 +32,8 @@ use Rattle.pool.specs.Meaning.{Stored}
 use Rattle.pool.specs.Counted.{Counted}
 use Rattle.pool.proofs.Passing.{so-exact, so-whitespace, so-end}
 use Rattle.walk.specs.declared.Place.{Place}
+use Rattle.walk.specs.declared.Stopped.{Stopped}
 use Rattle.walk.specs.declared.Walked.{Walked}
-use Rattle.walk.specs.declared.Walked.TheVariants.{Done, Stopped}
 use Rattle.walk.specs.declared.Refusal.TheVariants.{Spent}
 use Rattle.walk.specs.Met.{finish_plan, parts_plan, rule_plan, expr_plan, expr_turn, nested_plan, nest_turn, ran, Ready, Stands, to_come, Ended, Left, went, halted, past_at}
 use Rattle.walk.proofs.Outcomes.{visit-none, visit-more}
@@ -151,7 +151,7 @@ module _ (t line sheet : List ℕ) (depth at to l c left u : ℕ) where
 -- ---- a walk that finds nothing, or is out of visits
 
 pub left-nothing : {t : List ℕ} {o : Outcome (List Found)} {left : ℕ} (place : Place) (pool : Pool) (store : List ℕ) → Stored store pool.used
-    → Counted (scene_of t [] []) (log_of store pool.used) → o ≡ done left pool.used [] → Left t o place (log_of store pool.used) store (Done left pool)
+    → Counted (scene_of t [] []) (log_of store pool.used) → o ≡ done left pool.used [] → Left t o place (log_of store pool.used) store (Ok (record { left = left; pool = pool }))
 left-nothing place pool store s counts e =
     went (record { founds = []; done_with = e; made = made_none place.depth (log_of store pool.used) s.earlier; counted = counts })
 
@@ -218,11 +218,11 @@ module _ {t line sheet starts store₀ : List ℕ} {place : Place} {w : Walker} 
     along-small = omega (arith, along.stands.small, along.inside, ready.limit, ready.short)
 
     -- what a step's call left, with the log as it was
-    pub along-left : {o : Outcome (List Found)} {store' : List ℕ} {r : Walked} → planned ≡ o → Left t o place (log_of store pool.used) store' r → Left t planned place log store' r
+    pub along-left : {o : Outcome (List Found)} {store' : List ℕ} {r : Result Walked Stopped} → planned ≡ o → Left t o place (log_of store pool.used) store' r → Left t planned place log store' r
     along-left {store' = store'} {r = r} e m =
         subst (λ (x : List ℕ). Left t planned place (log_of x pool.used) store' r) along.same (left-same (sym e) m)
 
-    pub along-spent : left ≡ 0 → Left t planned place log store (Stopped Spent 0)
+    pub along-spent : left ≡ 0 → Left t planned place log store (Err (record { why = Spent; left = 0 }))
     along-spent e = halted (along.comes ∙ none_left t line sheet place.depth at place.end w.limit c left pool.used e ready.whole)
 
     -- what the end of the pattern asks
@@ -232,7 +232,7 @@ module _ {t line sheet starts store₀ : List ℕ} {place : Place} {w : Walker} 
         record { counted = along-counted; own = x.own; whole = so-end (scene_of t [] []) x.so_far }
 
     module _ (more : left ≡ 0 → ⊥) where
-      pub along-end : at ≡ place.end → {store' : List ℕ} {r : Walked} → Left t (ran (finish_plan (length line) place.depth c) (left - 1) pool) place (log_of store pool.used) store' r
+      pub along-end : at ≡ place.end → {store' : List ℕ} {r : Result Walked Stopped} → Left t (ran (finish_plan (length line) place.depth c) (left - 1) pool) place (log_of store pool.used) store' r
           → Left t planned place log store' r
       along-end e m = along-left (along.comes ∙ at-end t line sheet place.depth at place.end w.limit c left pool.used more ready.whole (omega arith)) m
 
@@ -240,7 +240,7 @@ module _ {t line sheet starts store₀ : List ℕ} {place : Place} {w : Walker} 
         before : at < place.end
         before = omega (arith, along.within, on)
 
-        nothing : from t line sheet place.depth at place.end w.limit c left pool.used ≡ done (left - 1) pool.used [] → Left t planned place log store (Done (left - 1) pool)
+        nothing : from t line sheet place.depth at place.end w.limit c left pool.used ≡ done (left - 1) pool.used [] → Left t planned place log store (Ok (record { left = left - 1; pool = pool }))
         nothing e = along-left refl (left-nothing place pool store along-stored along-counted (along.comes ∙ e))
 
         moved : (next : Walker) (n : ℕ) → (next.cursor ≤ w.limit) × (next.limit ≡ w.limit) → Stands t store₀ pool.used place n (parts_between t (at + 1) place.end) next.cursor
@@ -274,7 +274,7 @@ module _ {t line sheet starts store₀ : List ℕ} {place : Place} {w : Walker} 
               (past-exact t line sheet place.depth at place.end w.limit c left pool.used more before ready.whole part is exact
               (exact_past t line sheet w.limit c x step says_there next e))
 
-          pub along-no-exact : {back : Walker} → step ≡ Stayed back → Left t planned place log store (Done (left - 1) pool)
+          pub along-no-exact : {back : Walker} → step ≡ Stayed back → Left t planned place log store (Ok (record { left = left - 1; pool = pool }))
           along-no-exact e =
               nothing
               (no-exact t line sheet place.depth at place.end w.limit c left pool.used more before ready.whole part is exact
@@ -298,7 +298,7 @@ module _ {t line sheet starts store₀ : List ℕ} {place : Place} {w : Walker} 
               (past-whitespace t line sheet place.depth at place.end w.limit c left pool.used more before ready.whole part is space
               (gap-past t line sheet w.limit c step space-there e)))
 
-          pub along-no-whitespace : {back : Walker} → step ≡ Stayed back → Left t planned place log store (Done (left - 1) pool)
+          pub along-no-whitespace : {back : Walker} → step ≡ Stayed back → Left t planned place log store (Ok (record { left = left - 1; pool = pool }))
           along-no-whitespace e =
               nothing
               (no-whitespace t line sheet place.depth at place.end w.limit c left pool.used more before ready.whole part is space
@@ -335,7 +335,7 @@ module _ {t line sheet starts store₀ : List ℕ} {place : Place} {w : Walker} 
         pub ruleset-few : {r : ℕ} → part ≡ Nested r → r < 32
         ruleset-few {r} e = nested-few t line sheet ready.table at r (omega (arith, ready.parts, along.later)) (omega (arith, before, ready.whole)) (sym is ∙ e)
 
-        pub along-expression : part ≡ Expression → {rest : Place} → rest ≡ past_at place (at + 1) → {store' : List ℕ} {r : Walked}
+        pub along-expression : part ≡ Expression → {rest : Place} → rest ≡ past_at place (at + 1) → {store' : List ℕ} {r : Result Walked Stopped}
             → Left t (ran (expr_plan t line sheet rest.depth rest.at rest.end here.limit c) (left - 1) pool) rest (log_of store pool.used) store' r
             → Left t planned place log store' r
         along-expression e {rest} q {store'} {r} m =
@@ -343,7 +343,7 @@ module _ {t line sheet starts store₀ : List ℕ} {place : Place} {w : Walker} 
             (left-past (subst (λ (p : Place). Left t (ran (expr_plan t line sheet p.depth p.at p.end w.limit c) (left - 1) pool) p (log_of store pool.used) store' r) q
             (subst (λ (l : ℕ). Left t (ran (expr_plan t line sheet rest.depth rest.at rest.end l c) (left - 1) pool) rest (log_of store pool.used) store' r) along.under m)))
 
-        pub along-nested : {group : ℕ} → part ≡ Nested group → {rest : Place} → rest ≡ past_at place (at + 1) → {store' : List ℕ} {r : Walked}
+        pub along-nested : {group : ℕ} → part ≡ Nested group → {rest : Place} → rest ≡ past_at place (at + 1) → {store' : List ℕ} {r : Result Walked Stopped}
             → Left t (ran (nested_plan t line sheet rest.depth group rest.at rest.end here.limit c) (left - 1) pool) rest (log_of store pool.used) store' r
             → Left t planned place log store' r
         along-nested {group} e {rest} q {store'} {r} m =

@@ -1,5 +1,6 @@
 -- The nested step's two loops over limits and rules. A ruleset's rules are records that stand together from where it begins,
 -- so a rule's number in the loop is its number in the ruleset; and a walk one deeper leaves matches of that depth only.
+use Rattle.std.specs.Prelude.{Option, Some, Result, Ok, Err}
 use mathlib.Core.Path.{◌≡◌, sym, ap, subst, ◌∙◌}
 use mathlib.Core.Bool.{Bool, true}
 use mathlib.Core.List.{List, [], map, map-id, Memᴰ}
@@ -14,7 +15,7 @@ use Rattle.syntax.specs.declared.walker.Walker.{Walker}
 use Rattle.syntax.proofs.Useful.{limit-set}
 use Rattle.defs.specs.Table.{records_in, parts_between, rule_span, rule_parts}
 use Rattle.defs.specs.Ruledef.{starts_of, begins_at}
-use Rattle.defs.specs.declared.ruledef.Parts.{Parts}
+use Rattle.std.specs.declared.ops.Range.{Range}
 use Rattle.defs.specs.declared.ruledef.Part.{Part}
 use Rattle.defs.proofs.Starts.{begins-within}
 use Rattle.defs.proofs.Words.{parts_whole}
@@ -26,9 +27,8 @@ use Rattle.readings.proofs.Fails.{fails-done, fails-stop}
 use Rattle.readings.proofs.Packed.{lawful}
 use Rattle.readings.proofs.Records.{rules-range, rule-parts, begins-order, few-records, span-within}
 use Rattle.ruledef_map.specs.RuledefMap.{rule_prefix}
-use Rattle.leads.specs.declared.Ahead.{Ahead}
 use Rattle.leads.specs.Leads.{ahead_of, failing_of, Leads}
-use Rattle.leads.proofs.Told.{lead-tells}
+use Rattle.leads.proofs.Told.{told-some, lead-tells}
 use Rattle.lookahead.specs.declared.Limits.{Limits}
 use Rattle.lookahead.specs.Held.{held_limits}
 use Rattle.lookahead.proofs.Choices.{limits-few, limits-within, sheet-free-limits}
@@ -38,13 +38,12 @@ use Rattle.pool.specs.Meaning.{chain_at, Stored}
 use Rattle.pool.specs.Counted.{first, Counted}
 use Rattle.pool.proofs.Passing.{so-start}
 use Rattle.walk.specs.declared.Place.{Place}
+use Rattle.walk.specs.declared.Stopped.{Stopped}
 use Rattle.walk.specs.declared.Walked.{Walked}
-use Rattle.walk.specs.declared.Walked.TheVariants.{Done, Stopped}
-use Rattle.walk.specs.declared.Refusal.{Refusal}
 use Rattle.walk.specs.declared.Refusal.TheVariants.{Spent}
 use Rattle.walk.specs.Met.{finishes, parts_plan, rule_plan, deeper, ran, Ready, to_come, Stands, Made, number_of, Left}
 use Rattle.walk.proofs.Outcomes.{mapped-done, mapped-stop}
-use Rattle.walk.proofs.Held.{held_at, held-is, member-at}
+use Rattle.walk.proofs.Held.{held-is, member-at}
 use Rattle.walk.proofs.Logs.{made_none}
 use Rattle.walk.proofs.Loops.{Did, did_none, index-end, index-more, index-stop}
 use Rattle.walk.proofs.Turned.{reached, refused}
@@ -63,15 +62,31 @@ abbrev pub RulesDid : List ℕ → List ℕ → List ℕ → ℕ → ℕ → Wal
 RulesDid t line sheet depth group w n v₀ u₀ store₀ i v u store =
     Did t (rule_from t line sheet depth group w) itself (depth + 1) (take i (range 0 n)) v₀ u₀ store₀ v u store
 
-abbrev pub limits_in : Limits → List ℕ
-limits_in ls = take ls.count ls.places
+-- the limits that the code holds
+module _ (t line sheet : List ℕ) (l c : ℕ) (ps : List Part) {ls : Limits} (is : ls ≡ held_limits (limits (scene_of t line []) l c ps)) where
+  abbrev xs : List ℕ
+  xs = limits (scene_of t line sheet) l c ps
+
+  listed-there : ls ≡ held_limits xs
+  listed-there = is ∙ ap held_limits (sheet-free-limits t line [] sheet l c ps)
+
+  few : length xs ≤ 2
+  few = (limits-few (scene_of t line sheet) l c ps).1
+
+  pub limits-held : take ls.count ls.places ≡ limits (scene_of t line sheet) l c ps
+  unfolding held_limits
+  limits-held = ap (λ (e : Limits). take e.count e.places) listed-there ∙ held-is 2 xs few
+
+  pub limits-two : (ls.count ≤ 2) × (length ls.places ≡ 2)
+  unfolding held_limits
+  limits-two = (omega (arith, ap (λ (e : Limits). e.count) listed-there, few), ap (λ (e : Limits). length e.places) listed-there ∙ listed-length 2 (λ j. get_or xs j 0))
 
 abbrev pub under_limit : List ℕ → List ℕ → List ℕ → ℕ → ℕ → ℕ → ℕ → Plan (List Match)
 under_limit t line sheet depth group c m = deeper t line sheet depth group m c
 
-abbrev pub LimitsDid : List ℕ → List ℕ → List ℕ → ℕ → ℕ → ℕ → Limits → ℕ → ℕ → List ℕ → ℕ → ℕ → ℕ → List ℕ → Type 0
+abbrev pub LimitsDid : List ℕ → List ℕ → List ℕ → ℕ → ℕ → ℕ → List ℕ → ℕ → ℕ → List ℕ → ℕ → ℕ → ℕ → List ℕ → Type 0
 LimitsDid t line sheet depth group c ls v₀ u₀ store₀ i v u store =
-    Did t (under_limit t line sheet depth group c) itself (depth + 1) (take i (limits_in ls)) v₀ u₀ store₀ v u store
+    Did t (under_limit t line sheet depth group c) itself (depth + 1) (take i ls) v₀ u₀ store₀ v u store
 
 finishes-inner : (n d : ℕ) → finishes n (d + 1) ≡ λ e. true
 unfolding finishes
@@ -127,12 +142,15 @@ module _ {t line sheet starts store₀ : List ℕ} {place : Place} {w : Walker} 
 
       -- a rule that fails in its leading exact parts, told by its lead, is counted without a walk
       module _ (inner : Walker) (from : inner.cursor ≤ inner.limit) (within : inner.limit ≤ w.limit) {leads : List ℕ} (led : Leads t leads) (bytes : (i : ℕ) → get_or line i 0 < 256)
-          (wanted : Bool) {a : Ahead} {fails : ℕ} (a-is : a ≡ ahead_of wanted line inner.limit inner.cursor) (fails-are : fails ≡ failing_of (get_or leads (begin + k) 0) a) (some : 0 < fails)
+          (wanted : Bool) {a : Option ℕ} {fails : ℕ} (a-is : a ≡ ahead_of wanted line inner.limit inner.cursor) (fails-are : Some fails ≡ failing_of (get_or leads (begin + k) 0) a)
           {v₁ u₁ v u : ℕ} {store₁ store : List ℕ} (did : RulesDid t line sheet d group inner n v₁ u₁ store₁ k v u store) where
         fails-so : fails ≡ failing (rule_prefix (s.parts group k)) (ahead line inner.limit inner.cursor)
         fails-so =
-            lead-tells t line ready.table bytes inner.limit inner.cursor (begin + k) record-below wanted (led.each (begin + k)) a-is fails-are some
+            lead-tells t line ready.table bytes inner.limit inner.cursor (begin + k) record-below wanted (led.each (begin + k)) a-is fails-are
             ∙ ap (λ (ps : List Part). failing (rule_prefix ps) (ahead line inner.limit inner.cursor)) parts-named
+
+        some : 0 < fails
+        some = told-some _ a fails-are
 
         low : inner.limit ≤ length line
         low = omega (arith, ready.limit)
@@ -150,9 +168,9 @@ module _ {t line sheet starts store₀ : List ℕ} {place : Place} {w : Walker} 
             index-stop (rule_from t line sheet d group inner) itself (d + 1) (range 0 n) k did in-range k 0 next-rule
             (fails-stop s (under s (depths - (d + 1))) (λ e. true) (s.parts group k) inner.limit inner.cursor low from fails fails-so some (named group k) v u few)
 
-    module _ (k : ℕ) (h : k < n) (parts : Parts) (span : parts ≡ rule_span t (begin + k)) (inner : Walker) (from : inner.cursor ≤ inner.limit) (within : inner.limit ≤ w.limit) where
+    module _ (k : ℕ) (h : k < n) (parts : Range ℕ) (span : parts ≡ rule_span t (begin + k)) (inner : Walker) (from : inner.cursor ≤ inner.limit) (within : inner.limit ≤ w.limit) where
       abbrev there : Place
-      there = record { set = group; rule = k; at = parts.at; end = parts.end; depth = d + 1; args = 0 }
+      there = record { set = group; rule = k; at = parts.start; end = parts.end; depth = d + 1; args = 0 }
 
       pub rule-ready : (store : List ℕ) (has : Pool) → Stored store has.used → Counted (scene_of t [] []) (log_of store has.used) → Ready t line sheet starts store there inner has
       rule-ready store has st counts =
@@ -176,7 +194,7 @@ module _ {t line sheet starts store₀ : List ℕ} {place : Place} {w : Walker} 
             top = λ e. absurd (omega (arith, e));
           }
 
-      parts_are : parts_between t parts.at parts.end ≡ s.parts group k
+      parts_are : parts_between t parts.start parts.end ≡ s.parts group k
       parts_are =
           parts_whole t (begin + k) parts span ∙ parts-named k h
 
@@ -185,31 +203,31 @@ module _ {t line sheet starts store₀ : List ℕ} {place : Place} {w : Walker} 
       unfolding chain_at scene_of
       rule-stands store u z = record { own = first; so_far = so-start (scene_of t [] []) (sym parts_are) z; small = omega arith }
 
-      plan-is : rule_plan t line sheet (d + 1) parts.at parts.end inner.limit inner.cursor
+      plan-is : rule_plan t line sheet (d + 1) parts.start parts.end inner.limit inner.cursor
           ≡ walk s (under s (depths - (d + 1))) (λ e. true) (s.parts group k) inner.limit inner.cursor
       unfolding rule_plan parts_plan
       plan-is =
-          ap (λ (f : ℕ → Bool). walk s (under s (depths - (d + 1))) f (parts_between t parts.at parts.end) inner.limit inner.cursor) (finishes-inner (length line) d)
+          ap (λ (f : ℕ → Bool). walk s (under s (depths - (d + 1))) f (parts_between t parts.start parts.end) inner.limit inner.cursor) (finishes-inner (length line) d)
           ∙ ap (λ (ps : List Part). walk s (under s (depths - (d + 1))) (λ e. true) ps inner.limit inner.cursor) parts_are
 
       module _ {v₁ u₁ v u : ℕ} {store₁ store : List ℕ} (did : RulesDid t line sheet d group inner n v₁ u₁ store₁ k v u store)
-          {r : Walked} {has : Pool} (used : has.used ≡ u) {store'' : List ℕ}
-          (m : Left t (ran (rule_plan t line sheet (d + 1) parts.at parts.end inner.limit inner.cursor) v has) there (log_of store has.used) store'' r) where
-        ran-is : ran (rule_plan t line sheet (d + 1) parts.at parts.end inner.limit inner.cursor) v has
+          {r : Result Walked Stopped} {has : Pool} (used : has.used ≡ u) {store'' : List ℕ}
+          (m : Left t (ran (rule_plan t line sheet (d + 1) parts.start parts.end inner.limit inner.cursor) v has) there (log_of store has.used) store'' r) where
+        ran-is : ran (rule_plan t line sheet (d + 1) parts.start parts.end inner.limit inner.cursor) v has
             ≡ run (walk s (under s (depths - (d + 1))) (λ e. true) (s.parts group k) inner.limit inner.cursor) v u
         ran-is = ap (λ (p : Plan (List Found)). run p v has.used) plan-is ∙ ap (run (walk s (under s (depths - (d + 1))) (λ e. true) (s.parts group k) inner.limit inner.cursor) v) used
 
-        pub rules-again : {l : ℕ} {q : Pool} → r ≡ Done l q → length store'' ≡ 4096 → RulesDid t line sheet d group inner n v₁ u₁ store₁ (k + 1) l q.used store''
+        pub rules-again : {x : Walked} → r ≡ Ok x → length store'' ≡ 4096 → RulesDid t line sheet d group inner n v₁ u₁ store₁ (k + 1) x.left x.pool.used store''
         unfolding chain_at
-        rules-again {l} {q} e z =
-            let x = reached m e in
-            index-more (rule_from t line sheet d group inner) itself (d + 1) (range 0 n) k did (in-range k h) k 0 (next-rule k h) l q.used store'' (map (named group k) x.founds)
-            (mapped-done (named group k) (walk s (under s (depths - (d + 1))) (λ e. true) (s.parts group k) inner.limit inner.cursor) v u (sym ran-is ∙ x.done_with))
-            (subst (λ (n : ℕ). Made (d + 1) (log_of store n) (log_of store'' q.used) (map itself (map (named group k) x.founds))) used
-            (subst (Made (d + 1) (log_of store has.used) (log_of store'' q.used)) (sym (map-id (map (named group k) x.founds))) x.made))
-            z x.counted
+        rules-again {x} e z =
+            let y = reached m e in
+            index-more (rule_from t line sheet d group inner) itself (d + 1) (range 0 n) k did (in-range k h) k 0 (next-rule k h) x.left x.pool.used store'' (map (named group k) y.founds)
+            (mapped-done (named group k) (walk s (under s (depths - (d + 1))) (λ e. true) (s.parts group k) inner.limit inner.cursor) v u (sym ran-is ∙ y.done_with))
+            (subst (λ (n : ℕ). Made (d + 1) (log_of store n) (log_of store'' x.pool.used) (map itself (map (named group k) y.founds))) used
+            (subst (Made (d + 1) (log_of store has.used) (log_of store'' x.pool.used)) (sym (map-id (map (named group k) y.founds))) y.made))
+            z y.counted
 
-        pub rules-stop : {why : Refusal} {l : ℕ} → r ≡ Stopped why l → run (each (range 0 n) (rule_from t line sheet d group inner)) v₁ u₁ ≡ stop (number_of why) l
+        pub rules-stop : {x : Stopped} → r ≡ Err x → run (each (range 0 n) (rule_from t line sheet d group inner)) v₁ u₁ ≡ stop (number_of x.why) x.left
         rules-stop e =
             index-stop (rule_from t line sheet d group inner) itself (d + 1) (range 0 n) k did (in-range k h) k 0 (next-rule k h)
             (mapped-stop (named group k) (walk s (under s (depths - (d + 1))) (λ e. true) (s.parts group k) inner.limit inner.cursor) v u (sym ran-is ∙ refused m e))
@@ -224,40 +242,15 @@ module _ {t line sheet starts store₀ : List ℕ} {place : Place} {w : Walker} 
 
     -- ---- limits
 
-    module _ (ls : Limits) (ls-is : ls ≡ held_limits (limits (scene_of t line []) w.limit w.cursor (parts_between t place.at place.end))) where
-      abbrev xs : List ℕ
-      xs = limits s w.limit w.cursor (parts_between t place.at place.end)
+    module _ (ls : List ℕ) (ls-are : ls ≡ limits (scene_of t line sheet) w.limit w.cursor (parts_between t place.at place.end)) where
+      abbrev ys : List ℕ
+      ys = limits s w.limit w.cursor (parts_between t place.at place.end)
 
-      listed-there : ls ≡ held_limits xs
-      listed-there = ls-is ∙ ap held_limits (sheet-free-limits t line [] sheet w.limit w.cursor (parts_between t place.at place.end))
-
-      few : length xs ≤ 2
-      few = (limits-few s w.limit w.cursor (parts_between t place.at place.end)).1
-
-      count-is : ls.count ≡ length xs
-      unfolding held_limits
-      count-is = ap (λ (e : Limits). e.count) listed-there
-
-      places-are : limits_in ls ≡ xs
-      unfolding held_limits
-      places-are = ap limits_in listed-there ∙ held-is 2 xs few
-
-      pub limit-long : length (limits_in ls) ≡ ls.count
-      limit-long = ap length places-are ∙ sym count-is
-
-      pub limits-two : (ls.count ≤ 2) × (length ls.places ≡ 2)
-      unfolding held_limits
-      limits-two = (omega (arith, count-is, few), ap (λ (e : Limits). length e.places) listed-there ∙ listed-length 2 (λ j. get_or xs j 0))
-
-      module _ (i : ℕ) (h : i < ls.count) (m : ℕ) (is : m ≡ get_or ls.places i 0) where
-        next-limit : m ≡ get_or (limits_in ls) i 0
-        unfolding held_limits
-        next-limit = is ∙ ap (λ (e : Limits). get_or e.places i 0) listed-there ∙ held_at 2 xs few i (omega (arith, count-is)) ∙ ap (λ (l : List ℕ). get_or l i 0) (sym places-are)
-
+      module _ (i : ℕ) (h : i < length ls) (m : ℕ) (is : m ≡ get_or ls i 0) where
         limit-within : (w.cursor ≤ m) × (m ≤ w.limit)
         limit-within =
             limits-within s (lawful t line sheet ready.extents) w.limit w.cursor (parts_between t place.at place.end) ready.cursor m
-            (subst (λ (n : ℕ). Memᴰ n xs) (sym (next-limit ∙ ap (λ (l : List ℕ). get_or l i 0) places-are)) (member-at xs i (omega (arith, count-is))))
+            (subst (λ (n : ℕ). Memᴰ n ys) (sym (is ∙ ap (λ (l : List ℕ). get_or l i 0) ls-are)) (member-at ys i (omega (arith, ap length ls-are))))
 
         -- the walker under that limit
         module _ (inner : Walker) (inner-is : inner ≡ limited line m (held line w)) where
@@ -275,20 +268,17 @@ module _ {t line sheet starts store₀ : List ℕ} {place : Place} {w : Walker} 
                 → LimitsDid t line sheet d group w.cursor ls v₁ u₁ store₁ (i + 1) v' u' store'
             limits-again {k} {v'} {u'} {store'} rules z =
                 let all = index-end (rule_from t line sheet d group inner) itself (d + 1) (range 0 n) k rules (omega (arith, range_length 0 n)) in
-                index-more (under_limit t line sheet d group w.cursor) itself (d + 1) (limits_in ls) i did (omega (arith, limit-long)) m 0 next-limit v' u' store' all.gave
+                index-more (under_limit t line sheet d group w.cursor) itself (d + 1) ls i did h m 0 is v' u' store' all.gave
                 (ap (λ (p : Plan (List Match)). run p v u) whole_is ∙ all.done_with) all.made rules.stored.sized rules.counted
 
             pub limits-stop : {a l : ℕ} → run (each (range 0 n) (rule_from t line sheet d group inner)) v u ≡ stop a l
-                → run (each (limits_in ls) (under_limit t line sheet d group w.cursor)) v₁ u₁ ≡ stop a l
+                → run (each ls (under_limit t line sheet d group w.cursor)) v₁ u₁ ≡ stop a l
             limits-stop e =
-                index-stop (under_limit t line sheet d group w.cursor) itself (d + 1) (limits_in ls) i did (omega (arith, limit-long)) m 0 next-limit
+                index-stop (under_limit t line sheet d group w.cursor) itself (d + 1) ls i did h m 0 is
                 (ap (λ (p : Plan (List Match)). run p v u) whole_is ∙ e)
-
-      pub limits-listed : run (each (limits_in ls) (under_limit t line sheet d group w.cursor)) ≡ run (each xs (under_limit t line sheet d group w.cursor))
-      limits-listed = ap (λ (l : List ℕ). run (each l (under_limit t line sheet d group w.cursor))) places-are
 
     pub rules-start : (inner : Walker) (v u : ℕ) (store : List ℕ) → Stored store u → Counted (scene_of t [] []) (log_of store u) → RulesDid t line sheet d group inner n v u store 0 v u store
     rules-start inner v u store st counts = did_none t (rule_from t line sheet d group inner) itself (d + 1) v u store st counts
 
-  pub limits-start : (ls : Limits) (v : ℕ) → LimitsDid t line sheet d group w.cursor ls v pool.used store₀ 0 v pool.used store₀
+  pub limits-start : (ls : List ℕ) (v : ℕ) → LimitsDid t line sheet d group w.cursor ls v pool.used store₀ 0 v pool.used store₀
   limits-start ls v = did_none t (under_limit t line sheet d group w.cursor) itself (d + 1) v pool.used store₀ ready.stored ready.counted

@@ -1,6 +1,6 @@
 -- What a walk over the pool asks, and what it gives: what the plan of `readings` gives, with the matches found left in the
 -- pool's log, in order, and every record of the log `Counted`, before each step and after it.
-use Rattle.std.specs.Prelude.{◌≡◌, Bool, true, not, ◌&&◌, List, [], ◌∷◌, ◌++◌, map, ℕ, zero, suc, ◌-◌, ◌≤◌, ◌<◌, eqb, length, get_or}
+use Rattle.std.specs.Prelude.{◌≡◌, Option, Some, None, Result, Ok, Err, Bool, true, not, ◌&&◌, List, [], ◌∷◌, ◌++◌, map, ℕ, zero, suc, ◌-◌, ◌≤◌, ◌<◌, eqb, length, get_or}
 use Rattle.std.proofs.Math.Seq.{slice}
 use Rattle.plain.specs.Choice.{select}
 use Rattle.syntax.specs.declared.walker.Walker.{Walker}
@@ -23,11 +23,10 @@ use Rattle.pool.specs.Meaning.{Chain, none, Entry, argued, completed, tree_at, u
 use Rattle.pool.specs.Counted.{CountedTo, Counted, Underway}
 use Rattle.walk.specs.declared.Place.{Place}
 use Rattle.walk.specs.declared.Inner.{Inner}
-use Rattle.walk.specs.declared.Inner.TheVariants.{Ends, Nothing}
 use Rattle.walk.specs.declared.Refusal.{Refusal}
 use Rattle.walk.specs.declared.Refusal.TheVariants.{Spent, Deep, Full}
+use Rattle.walk.specs.declared.Stopped.{Stopped}
 use Rattle.walk.specs.declared.Walked.{Walked}
-use Rattle.walk.specs.declared.Walked.TheVariants.{Done, Stopped}
 
 -- ---- the plans of the three functions
 
@@ -154,9 +153,9 @@ pub record Reached (t : List ℕ) (left : ℕ) (pool : Pool) (o : Outcome (List 
   pub made : Made place.depth log (log_of store' pool.used) (map (whole_at place log) founds)
   pub counted : Counted (scene_of t [] []) (log_of store' pool.used)
 
-pub data Left (t : List ℕ) (o : Outcome (List Found)) (place : Place) (log : List Record) (store' : List ℕ) : Walked → Type 0 where
-  went : {left : ℕ} {pool : Pool} → Reached t left pool o place log store' → Left t o place log store' (Done left pool)
-  halted : {why : Refusal} {left : ℕ} → o ≡ stop (number_of why) left → Left t o place log store' (Stopped why left)
+pub data Left (t : List ℕ) (o : Outcome (List Found)) (place : Place) (log : List Record) (store' : List ℕ) : Result Walked Stopped → Type 0 where
+  went : {w : Walked} → Reached t w.left w.pool o place log store' → Left t o place log store' (Ok w)
+  halted : {s : Stopped} → o ≡ stop (number_of s.why) s.left → Left t o place log store' (Err s)
 
 -- ---- a place moved
 
@@ -178,7 +177,7 @@ fresh_of d seen (argued c) = []
 fresh_of d seen (completed n t e) = select (eqb n d && not (any_same same_match seen (t, e))) ((t, e) ∷ []) []
 
 -- what is told of the record x with number m: of a match that is new, where it ended and the count that x has
-pub data InnerOf (d : ℕ) (es : List Entry) (first m : ℕ) (x : Record) : Inner → Type 0 where
-  new_match : {e : ℕ} → e < 128 → depth_in x ≡ d → fresh_of d (gathered d (made es first m)) (get_or es m (argued none)) ≡ (tree_at es m, e) ∷ []
-      → InnerOf d es first m x (Ends e (count_in x))
-  no_match : fresh_of d (gathered d (made es first m)) (get_or es m (argued none)) ≡ [] → InnerOf d es first m x Nothing
+pub data InnerOf (d : ℕ) (es : List Entry) (first m : ℕ) (x : Record) : Option Inner → Type 0 where
+  new_match : {e : ℕ} → e < 128 → depth_in x ≡ Some d → fresh_of d (gathered d (made es first m)) (get_or es m (argued none)) ≡ (tree_at es m, e) ∷ []
+      → InnerOf d es first m x (Some (record { end = e; count = count_in x }))
+  no_match : fresh_of d (gathered d (made es first m)) (get_or es m (argued none)) ≡ [] → InnerOf d es first m x None

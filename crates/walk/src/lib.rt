@@ -14,7 +14,7 @@ ghost use Rattle.walk.specs.Met.{Ready, Prepared, Stands, to_come, from_expr, fr
 use defs::ruledef;
 use defs::ruledef::Part;
 use leads;
-use pool::{Argument, ArgumentKind, Pool, Record, Room};
+use pool::{Argument, ArgumentKind, Pool, Record};
 use syntax::walker::{Step, Walker, least};
 use useful;
 
@@ -38,32 +38,24 @@ impl Place {
     fn past(self, at: usize) -> Place
         ensures { result ≡ past_at self at }
     {
-        Place {
-            set: self.set,
-            rule: self.rule,
-            at,
-            end: self.end,
-            depth: self.depth,
-            args: self.args,
-        }
+        Place { at, ..self }
     }
 
     // The same place after another argument.
     fn after(self, args: usize) -> Place
         ensures { result ≡ after_arg self args }
     {
-        Place {
-            set: self.set,
-            rule: self.rule,
-            at: self.at,
-            end: self.end,
-            depth: self.depth,
-            args,
-        }
+        Place { args, ..self }
     }
 }
 
-// Why a walk stops.
+// What a walk leaves: visits left and the pool.
+#[derive(Clone, Copy)]
+pub struct Walked {
+    pub left: usize,
+    pub pool: Pool,
+}
+
 #[derive(Clone, Copy)]
 pub enum Refusal {
     // The next visit would exceed the budget.
@@ -74,18 +66,18 @@ pub enum Refusal {
     Full,
 }
 
-// What a walk leaves: visits left and the pool, or why it stopped and visits left.
+// Why a walk stops, and visits left.
 #[derive(Clone, Copy)]
-pub enum Walked {
-    Done(usize, Pool),
-    Stopped(Refusal, usize),
+pub struct Stopped {
+    pub why: Refusal,
+    pub left: usize,
 }
 
 // An inner match to go on from: where it ended, and its exact count.
 #[derive(Clone, Copy)]
-pub enum Inner {
-    Ends(usize, usize),
-    Nothing,
+pub struct Inner {
+    pub end: usize,
+    pub count: usize,
 }
 
 // The end of a pattern, whose match has this exact count. A top rule short of the line's end completes no match.
@@ -98,7 +90,7 @@ fn finish(
     walker: Walker,
     left: usize,
     pool: Pool,
-) -> Walked
+) -> Result<Walked, Stopped>
     requires stored { Stored store.old pool.used }
     requires set_bound { place.set < 32 }
     requires rule_bound { place.rule < 512 }
@@ -112,15 +104,16 @@ fn finish(
     ensures { Left table.now (ran (finish_plan (length line.now) place.depth walker.cursor) left pool) place (log_of store.old pool.used) store.new result }
 {
     let depth = place.depth;
-    if depth == 0 {
-        if !walker.is_over(line) {
-            return Walked::Done(left, pool);
-        }
+    if depth == 0 && !walker.is_over(line) {
+        return Ok(Walked { left, pool });
     }
     let end = walker.get_cursor_index();
     match pool.complete(store, depth, place.set, place.rule, place.args, end, exact) {
-        Room::Taken(more) => Walked::Done(left, more),
-        Room::Full => Walked::Stopped(Refusal::Full, left),
+        Some(more) => Ok(Walked { left, pool: more }),
+        None => Err(Stopped {
+            why: Refusal::Full,
+            left,
+        }),
     }
 }
 
@@ -132,49 +125,34 @@ fn is_duplicate(store: &[usize], used: usize, first: usize, m: usize, depth: usi
     requires depth_bound { depth < 32 }
     ensures { (e : ℕ) → result ≡ any_same same_match (gathered depth (made (entries store.now used) first m)) (tree_at (entries store.now used) m, e) }
 {
-    let mut i = first;
-    while i < m {
-        let here = i;
-        i += 1;
-        if pool::depth_at(store, here) == depth {
-            if trees::is_same(store, used, here, m) {
-                return true;
-            }
+    for i in first..m {
+        if pool::depth_at(store, i) == Some(depth) && trees::is_same(store, used, i, m) {
+            return true;
         }
     }
     false
 }
 
 // Where record m ended and its count, if it is a match of the depth and no record from `first` on and before it is the same.
-fn inner_match(store: &[usize], used: usize, first: usize, m: usize, depth: usize) -> Inner
+fn inner_match(store: &[usize], used: usize, first: usize, m: usize, depth: usize) -> Option<Inner>
     requires stored { Stored store.now used }
     requires first_le_m { first ≤ m }
     requires m_lt_used { m < used }
     requires depth_bound { depth < 32 }
     ensures { InnerOf depth (entries store.now used) first m (decode (get_or store.now m 0)) result }
 {
-    let record = pool::record_at(store, m);
-    match record {
-        Record::Kept {
-            argument: _,
-            prev: _,
-            count: _,
-        } => Inner::Nothing,
+    match pool::record_at(store, m) {
+        Record::Kept { .. } => None,
         Record::Completed {
             depth: d,
-            set: _,
-            rule: _,
-            args: _,
             end,
             count,
+            ..
         } => {
-            if d != depth {
-                return Inner::Nothing;
+            if d != depth || is_duplicate(store, used, first, m, depth) {
+                return None;
             }
-            if is_duplicate(store, used, first, m, depth) {
-                return Inner::Nothing;
-            }
-            Inner::Ends(end, count)
+            Some(Inner { end, count })
         }
     }
 }
@@ -194,7 +172,7 @@ pub fn match_with_rule(
     walker: Walker,
     visits: usize,
     pool: Pool,
-) -> Walked
+) -> Result<Walked, Stopped>
     requires ready { Ready table.now line.now sheet.now starts.now store.old place walker pool }
     requires stands { Stands table.now store.old pool.used place exact (to_come table.now place) walker.cursor }
     requires prepared { Prepared table.now line.now useful.now leads.now }
@@ -206,9 +184,13 @@ pub fn match_with_rule(
     let mut passed: usize = 0;
     let mut here = walker;
     let end = place.end;
+    // Not `for at in ..`: a pattern's end is a visit too, so the visit would be counted in two places.
     loop {
         if left == 0 {
-            return Walked::Stopped(Refusal::Spent, 0);
+            return Err(Stopped {
+                why: Refusal::Spent,
+                left: 0,
+            });
         }
         left -= 1;
         if at == end {
@@ -218,28 +200,18 @@ pub fn match_with_rule(
         at += 1;
         match part {
             Part::Exact(b) => {
-                let step = useful::maybe_expect_char(line, useful, here, b);
-                match step {
-                    Step::Past(next) => {
-                        here = next;
-                        passed += 1;
-                    }
-                    Step::Stayed(_) => {
-                        return Walked::Done(left, pool);
-                    }
-                }
+                let Step::Past(next) = useful::maybe_expect_char(line, useful, here, b) else {
+                    return Ok(Walked { left, pool });
+                };
+                here = next;
+                passed += 1;
             }
             Part::Whitespace => {
-                let step = useful::maybe_expect_whitespace(line, useful, here);
-                match step {
-                    // It consumes nothing: the walker comes back where it stood.
-                    Step::Past(same) => {
-                        here = same;
-                    }
-                    Step::Stayed(_) => {
-                        return Walked::Done(left, pool);
-                    }
-                }
+                // It consumes nothing: the walker comes back where it stood.
+                let Step::Past(same) = useful::maybe_expect_whitespace(line, useful, here) else {
+                    return Ok(Walked { left, pool });
+                };
+                here = same;
             }
             Part::Expression => {
                 let rest = place.past(at);
@@ -295,7 +267,7 @@ fn match_with_expr(
     walker: Walker,
     visits: usize,
     pool: Pool,
-) -> Walked
+) -> Result<Walked, Stopped>
     requires ready { Ready table.now line.now sheet.now starts.now store.old place walker pool }
     requires stands { Stands table.now store.old pool.used place exact (from_expr table.now place) walker.cursor }
     requires prepared { Prepared table.now line.now useful.now leads.now }
@@ -303,43 +275,38 @@ fn match_with_expr(
 {
     let begins = useful::next_useful_index(line, useful, walker);
     let ends = lookahead::find_ends(table, line, useful, sheet, walker, place.at, place.end);
-    let mut left = visits;
-    let mut has = pool;
-    let mut i = 0;
-    while i < ends.count {
-        let end = ends.places[i];
-        i += 1;
+    let mut walked = Walked { left: visits, pool };
+    for &end in &ends.places[..ends.count] {
         let start = least(end, begins);
         let argument = Argument {
             start,
             end,
             kind: ArgumentKind::Expr,
         };
-        let room = has.keep(store, argument, place.args, exact);
-        match room {
-            Room::Full => {
-                return Walked::Stopped(Refusal::Full, left);
-            }
-            Room::Taken(more) => {
-                let next = place.after(more.used);
-                let moved = walker.set_cursor_index(line, end);
-                let got = match_with_rule(
-                    table, line, useful, sheet, starts, leads, store, next, exact, moved, left,
-                    more,
-                );
-                match got {
-                    Walked::Done(l, q) => {
-                        left = l;
-                        has = q;
-                    }
-                    Walked::Stopped(why, l) => {
-                        return Walked::Stopped(why, l);
-                    }
-                }
-            }
-        }
+        let Some(more) = walked.pool.keep(store, argument, place.args, exact) else {
+            return Err(Stopped {
+                why: Refusal::Full,
+                left: walked.left,
+            });
+        };
+        let next = place.after(more.used);
+        let moved = walker.set_cursor_index(line, end);
+        walked = match_with_rule(
+            table,
+            line,
+            useful,
+            sheet,
+            starts,
+            leads,
+            store,
+            next,
+            exact,
+            moved,
+            walked.left,
+            more,
+        )?;
     }
-    Walked::Done(left, has)
+    Ok(walked)
 }
 
 // The nested step, over the parts after the parameter: every rule of the ruleset, under the limit and then under the cut if
@@ -359,7 +326,7 @@ fn match_with_nested_ruledef(
     walker: Walker,
     visits: usize,
     pool: Pool,
-) -> Walked
+) -> Result<Walked, Stopped>
     requires ready { Ready table.now line.now sheet.now starts.now store.old place walker pool }
     requires stands { Stands table.now store.old pool.used place exact (from_nest table.now set place) walker.cursor }
     requires set_bound { set < 32 }
@@ -368,98 +335,91 @@ fn match_with_nested_ruledef(
 {
     let depth = place.depth;
     if Pool::DEPTH <= depth {
-        return Walked::Stopped(Refusal::Deep, visits);
+        return Err(Stopped {
+            why: Refusal::Deep,
+            left: visits,
+        });
     }
     let begins = useful::next_useful_index(line, useful, walker);
     let limits = lookahead::find_limits(table, line, walker, place.at, place.end);
     let begin = starts[set] as usize;
     let count = starts[set + 1] as usize - begin;
     let first = pool.used;
-    let mut left = visits;
-    let mut has = pool;
-    let mut pass = 0;
-    while pass < limits.count {
-        let inner = walker.set_cursor_limit(line, limits.places[pass]);
-        pass += 1;
+    let mut walked = Walked { left: visits, pool };
+    for &limit in &limits.places[..limits.count] {
+        let inner = walker.set_cursor_limit(line, limit);
         let ahead = leads::look_ahead(line, useful, inner, FEW < count);
-        let mut rule = 0;
-        while rule < count {
+        for rule in 0..count {
             let number = begin + rule;
             // A rule that fails in its leading exact parts takes no walk to count.
-            let fails = leads::failing_visits(leads[number], ahead);
-            if 0 < fails {
-                if left < fails {
-                    return Walked::Stopped(Refusal::Spent, 0);
+            if let Some(fails) = leads::failing_visits(leads[number], ahead) {
+                if walked.left < fails {
+                    return Err(Stopped {
+                        why: Refusal::Spent,
+                        left: 0,
+                    });
                 }
-                left -= fails;
-                rule += 1;
+                walked.left -= fails;
                 continue;
             }
             let parts = ruledef::parts_of(table, number as u16);
             let start = Place {
                 set,
                 rule,
-                at: parts.at,
+                at: parts.start,
                 end: parts.end,
                 depth: depth + 1,
                 args: 0,
             };
-            rule += 1;
-            let got = match_with_rule(
-                table, line, useful, sheet, starts, leads, store, start, 0, inner, left, has,
-            );
-            match got {
-                Walked::Done(l, q) => {
-                    left = l;
-                    has = q;
-                }
-                Walked::Stopped(why, l) => {
-                    return Walked::Stopped(why, l);
-                }
-            }
+            walked = match_with_rule(
+                table,
+                line,
+                useful,
+                sheet,
+                starts,
+                leads,
+                store,
+                start,
+                0,
+                inner,
+                walked.left,
+                walked.pool,
+            )?;
         }
     }
-    let last = has.used;
-    let mut m = first;
-    while m < last {
-        let here = m;
-        m += 1;
-        let found = inner_match(store, has.used, first, here, depth + 1);
-        match found {
-            Inner::Nothing => {}
-            Inner::Ends(end, nested) => {
-                let start = least(end, begins);
-                let sum = exact + nested;
-                let argument = Argument {
-                    start,
-                    end,
-                    kind: ArgumentKind::Nested(here),
-                };
-                let room = has.keep(store, argument, place.args, sum);
-                match room {
-                    Room::Full => {
-                        return Walked::Stopped(Refusal::Full, left);
-                    }
-                    Room::Taken(more) => {
-                        let next = place.after(more.used);
-                        let moved = walker.set_cursor_index(line, end);
-                        let got = match_with_rule(
-                            table, line, useful, sheet, starts, leads, store, next, sum, moved,
-                            left, more,
-                        );
-                        match got {
-                            Walked::Done(l, q) => {
-                                left = l;
-                                has = q;
-                            }
-                            Walked::Stopped(why, l) => {
-                                return Walked::Stopped(why, l);
-                            }
-                        }
-                    }
-                }
-            }
-        }
+    for m in first..walked.pool.used {
+        let Some(found) = inner_match(store, walked.pool.used, first, m, depth + 1) else {
+            continue;
+        };
+        let start = least(found.end, begins);
+        let sum = exact + found.count;
+        let argument = Argument {
+            start,
+            end: found.end,
+            kind: ArgumentKind::Nested(m),
+        };
+        let Some(more) = walked.pool.keep(store, argument, place.args, sum) else {
+            return Err(Stopped {
+                why: Refusal::Full,
+                left: walked.left,
+            });
+        };
+        let next = place.after(more.used);
+        let moved = walker.set_cursor_index(line, found.end);
+        walked = match_with_rule(
+            table,
+            line,
+            useful,
+            sheet,
+            starts,
+            leads,
+            store,
+            next,
+            sum,
+            moved,
+            walked.left,
+            more,
+        )?;
     }
-    Walked::Done(left, has)
+    Ok(walked)
 }

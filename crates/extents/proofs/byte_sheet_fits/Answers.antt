@@ -18,3 +18,7 @@ loop-c-preserved c = every-step _ _ c.loop-c.invariant (passed c.byte_row_fits.e
 pub returns : goal.returns
 unfolding half_fits
 returns c = record { fits = sym (every-fewer _ _ _ (omega (arith, c.loop-c-test.false)) c.loop-c.invariant) ∙ every-and _ _ _ }
+
+pub returns-else-not-byte_row_fits : goal.returns-else-not-byte_row_fits
+unfolding half_fits
+returns-else-not-byte_row_fits c = record { fits = sym (every-fewer _ _ _ (omega arith) (every-step _ _ c.loop-c.invariant (passed c.byte_row_fits.ensures.fits c.if-not-byte_row_fits.false-raw))) ∙ every-and _ _ _ }

@@ -1,39 +1,27 @@
 -- The cycle of the three functions. The visits left fall: 2 * visits for the rule walk, one more for the two steps, which a
 -- rule walk calls after its visit. Each answer is a law of the files beside, at the place where the code has come.
-use Prim.Native.Nat.{◌+◌, ◌-◌, ◌*◌}
+use Prim.Native.Nat.{◌+◌, ◌*◌}
 use Rattle.walk.proofs.Places.{Along}
 use Rattle.walk.proofs.Exprs.{ExprDid}
 use Rattle.walk.proofs.Rules.{RulesDid, LimitsDid}
 use Rattle.walk.proofs.Nests.{NestDid}
 use Rattle.walk.proofs.+match_with_expr_match_with_nested_ruledef_match_with_rule.Given as goal
 
-abbrev pub invariant-match_with_expr-loop-i : goal.invariant-match_with_expr-loop-i
-invariant-match_with_expr-loop-i l =
-    ExprDid l.table l.line l.sheet l.place l.walker.limit l.begins l.ends l.initial.left l.initial.has.used l.initial.store l.i l.left l.has.used l.store
-
-abbrev pub decreases-match_with_expr-loop-i : goal.decreases-match_with_expr-loop-i
-decreases-match_with_expr-loop-i l = l.ends.count - l.i
+abbrev pub invariant-match_with_expr-loop-end : goal.invariant-match_with_expr-loop-end
+invariant-match_with_expr-loop-end l =
+    ExprDid l.table l.line l.sheet l.place l.walker.limit l.begins l.end-items l.initial.walked.left l.initial.walked.pool.used l.initial.store l.end-index l.walked.left l.walked.pool.used l.store
 
 abbrev pub invariant-match_with_nested_ruledef-loop-rule : goal.invariant-match_with_nested_ruledef-loop-rule
 invariant-match_with_nested_ruledef-loop-rule l =
-    RulesDid l.table l.line l.sheet l.depth l.set l.inner l.count l.initial.left l.initial.has.used l.initial.store l.rule l.left l.has.used l.store
+    RulesDid l.table l.line l.sheet l.depth l.set l.inner l.count l.initial.walked.left l.initial.walked.pool.used l.initial.store l.rule l.walked.left l.walked.pool.used l.store
 
-abbrev pub decreases-match_with_nested_ruledef-loop-rule : goal.decreases-match_with_nested_ruledef-loop-rule
-decreases-match_with_nested_ruledef-loop-rule l = l.count - l.rule
-
-abbrev pub invariant-match_with_nested_ruledef-loop-pass : goal.invariant-match_with_nested_ruledef-loop-pass
-invariant-match_with_nested_ruledef-loop-pass l =
-    LimitsDid l.table l.line l.sheet l.depth l.set l.walker.cursor l.limits l.initial.left l.initial.has.used l.initial.store l.pass l.left l.has.used l.store
-
-abbrev pub decreases-match_with_nested_ruledef-loop-pass : goal.decreases-match_with_nested_ruledef-loop-pass
-decreases-match_with_nested_ruledef-loop-pass l = l.limits.count - l.pass
+abbrev pub invariant-match_with_nested_ruledef-loop-limit : goal.invariant-match_with_nested_ruledef-loop-limit
+invariant-match_with_nested_ruledef-loop-limit l =
+    LimitsDid l.table l.line l.sheet l.depth l.set l.walker.cursor l.limit-items l.initial.walked.left l.initial.walked.pool.used l.initial.store l.limit-index l.walked.left l.walked.pool.used l.store
 
 abbrev pub invariant-match_with_nested_ruledef-loop-m : goal.invariant-match_with_nested_ruledef-loop-m
 invariant-match_with_nested_ruledef-loop-m l =
-    NestDid l.table l.line l.sheet l.place l.walker.limit l.begins l.first l.initial.left l.initial.has.used l.initial.store l.m l.left l.has.used l.store
-
-abbrev pub decreases-match_with_nested_ruledef-loop-m : goal.decreases-match_with_nested_ruledef-loop-m
-decreases-match_with_nested_ruledef-loop-m l = l.last - l.m
+    NestDid l.table l.line l.sheet l.place l.walker.limit l.begins l.first l.initial.walked.left l.initial.walked.pool.used l.initial.store l.m l.walked.left l.walked.pool.used l.store
 
 abbrev pub invariant-match_with_rule-loop-left : goal.invariant-match_with_rule-loop-left
 invariant-match_with_rule-loop-left l =

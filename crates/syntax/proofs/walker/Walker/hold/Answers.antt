@@ -2,5 +2,5 @@
 use Rattle.syntax.proofs.Useful.{held_by}
 use Rattle.syntax.proofs.walker.Walker.hold.Goals as goal
 
-pub returns : goal.returns
-returns c = record { answers = held_by _ _ _ _ c.least-limit.ensures.answers c.least-cursor.ensures.answers }
+pub returns-clause-answers : goal.returns-clause-answers
+returns-clause-answers c = held_by _ _ _ _ c.least-limit.ensures.answers c.least-cursor.ensures.answers
