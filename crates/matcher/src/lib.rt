@@ -15,7 +15,7 @@ ghost use Rattle.trials.specs.Orders.{order_of, rules_of};
 
 use defs::ruledef;
 use pool::Pool;
-use trials::{Answer, Checked, Order};
+use trials::{Matched, Order, Refused};
 
 // The rules that a call tries, by their places in the table, at the buffer's start.
 fn rules_to_try(table: &[u16], line: &[u8], order: Order, rules: &mut [u16]) -> usize
@@ -42,19 +42,13 @@ fn call(
     base: u32,
     order: Order,
     answer: &mut [u32],
-) -> Answer
+) -> Result<Matched, Refused>
     ensures { says result answer.new ≡ call_with (order_of order) table.now line.now sheet.now budget base answer.old }
 {
     if !acceptance::check_table(table) {
-        return Answer::BadTable;
+        return Err(Refused::BadTable);
     }
-    let checked = trials::check(line, sheet, budget, base);
-    match checked {
-        Checked::Bad(refused) => {
-            return refused;
-        }
-        Checked::Good => {}
-    }
+    trials::check(line, sheet, budget, base)?;
     let starts = ruledef::ruleset_starts(table);
     let mut rules = [0u16; ruledef::MOST_RULES];
     let count = rules_to_try(table, line, order, &mut rules);
@@ -64,8 +58,18 @@ fn call(
     trials::lead_rules(table, &starts, &places, &rules, count, order, &mut leads);
     let mut store = [0usize; Pool::ROOM];
     trials::read_line(
-        table, line, sheet, budget, base, &starts, &leads, &places, &rules, count, order,
-        &mut store, answer,
+        table,
+        line,
+        sheet,
+        budget,
+        base,
+        &starts,
+        &leads,
+        &places,
+        &rules[..count],
+        order,
+        &mut store,
+        answer,
     )
 }
 
@@ -77,7 +81,7 @@ pub fn match_instr(
     budget: u32,
     base: u32,
     answer: &mut [u32],
-) -> Answer
+) -> Result<Matched, Refused>
     ensures answers { says result answer.new ≡ scan_call table.now line.now sheet.now budget base answer.old }
     ensures readings { Accepted table.now line.now sheet.now budget base → Within table.now line.now sheet.now budget → Demand3 (based base (scene_of table.now line.now sheet.now)) answer.old (says result answer.new) }
 {
@@ -92,7 +96,7 @@ pub fn match_with_ruledef_map(
     budget: u32,
     base: u32,
     answer: &mut [u32],
-) -> Answer
+) -> Result<Matched, Refused>
     ensures answers { says result answer.new ≡ lookup_call table.now line.now sheet.now budget base answer.old }
     ensures readings { Accepted table.now line.now sheet.now budget base → Within table.now line.now sheet.now budget → Demand3 (based base (scene_of table.now line.now sheet.now)) answer.old (says result answer.new) }
     ensures visits { Accepted table.now line.now sheet.now budget base → Within table.now line.now sheet.now budget → (says result answer.new).visits ≤ (scan_call table.now line.now sheet.now budget base answer.old).visits }

@@ -45,20 +45,19 @@ chosen-top Lookup t line m = found-top t (line_prefix line) m
 
 module _ {how : Order} {t line sheet starts places order rules store : List ℕ} {tops count budget base : ℕ}
     (ready : Prepared t starts places) (lined : LineAccepted line sheet budget base) (chosen : ChosenFor how t line order rules tops count) (sized : length store ≡ room) where
-  pub read_asked : ReadAsked t line sheet starts places store rules count budget base
-  read_asked = let fits : count ≤ length rules = omega (arith, chosen.few, chosen.again.room) in record {
+  pub read_asked : ReadAsked t line sheet starts places store (take count rules) budget base
+  read_asked = record {
     table = ready.table;
     lined = lined;
     begins = ready.begins;
     placed = record {
       sized = ready.sized;
-      each = λ j h. subst (PlacedAt t places) (get_or-take count rules j 0 h)
-          (ready.placed (get_or (take count rules) j 0)
-          (chosen-top how t line (subst (Memᴰ (get_or (take count rules) j 0)) chosen.rules_are (member-at (take count rules) j (omega (arith, length-take-le count rules fits))))));
+      each = λ j h.
+          ready.placed (get_or (take count rules) j 0)
+          (chosen-top how t line (subst (Memᴰ (get_or (take count rules) j 0)) chosen.rules_are (member-at (take count rules) j h)));
     };
     chosen = chosen_by how t line sheet budget base [] ready.table (take count rules) chosen.rules_are;
     sized = sized;
-    fits = fits;
   }
 
 -- ---- choosing

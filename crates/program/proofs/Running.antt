@@ -22,7 +22,9 @@ use Rattle.runs.specs.Program.{Ran, taken, run_lines, line_call}
 use Rattle.readings.specs.Call.{call_with}
 use Rattle.runs.specs.Demand.{Kept}
 use Rattle.runs.proofs.Shapes.{Shape, call_shape, shape-keeps}
-use Rattle.trials.specs.declared.Answer.{Answer}
+use Rattle.std.specs.Prelude.{Result}
+use Rattle.trials.specs.declared.Matched.{Matched}
+use Rattle.trials.specs.declared.Refused.{Refused}
 use Rattle.trials.specs.declared.Order.{Order}
 use Rattle.trials.specs.Told.{says}
 use Rattle.trials.specs.Orders.{order_of}
@@ -129,7 +131,7 @@ module _ (call : Line → List ℕ → Told) (text ends sheets budgets bases : L
 
         -- ---- the line told
 
-        module _ (shape : Shape (call line_here)) (got : Answer) (buffer : List ℕ) (told : says got buffer ≡ call line_here (drop used answers)) where
+        module _ (shape : Shape (call line_here)) (got : Result Matched Refused) (buffer : List ℕ) (told : says got buffer ≡ call line_here (drop used answers)) where
           buffer-is : (call line_here (drop used answers)).buffer ≡ buffer
           buffer-is = sym (ap (λ (r : Told). r.buffer) told) ∙ buffer-of got buffer
 
@@ -266,7 +268,7 @@ module _ {how : Order} {t text ends sheets budgets bases order answers₀ : List
   pub used-small : used ≤ 3222798848
   used-small = omega (arith, turn.running.few, turn.few)
 
-  module _ (end : ℕ) (is : end ≡ get_or ends i 0) (size : ℕ) (size_is : size ≡ sheet_size (end - from)) (got : Answer) (buffer : List ℕ)
+  module _ (end : ℕ) (is : end ≡ get_or ends i 0) (size : ℕ) (size_is : size ≡ sheet_size (end - from)) (got : Result Matched Refused) (buffer : List ℕ)
       (lent : says got buffer ≡ call_with (order_of how) t (part from end text) (part sheet (sheet + size) sheets) (get_or budgets i 0) (get_or bases i 0) (part used (length answers) answers)) (row : Row) (row_is : RowOf got row) where
     abbrev line : List ℕ
     line = slice from end text

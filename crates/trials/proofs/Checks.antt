@@ -2,7 +2,7 @@
 use mathlib.Core.Path.{◌≡◌, refl, sym, subst, ◌∙◌}
 use mathlib.Core.Logic.{⊎_elim}
 use mathlib.Core.Bool.{true, false}
-use Rattle.std.specs.Prelude.{Option, None, Some}
+use Rattle.std.specs.Prelude.{Option, None, Some, Result, Ok, Err}
 use mathlib.Core.List.{List}
 use Prim.Native.Nat.{ℕ, ◌≤◌, ◌<◌}
 use native.Mathlib.Omega.{arith}
@@ -15,43 +15,41 @@ use Rattle.extents.specs.Sheet.{sheet_fits}
 use Rattle.readings.specs.Call.{budget_fits, base_fits}
 use Rattle.readings.proofs.Calls.{bad-line, bad-sheet, bad-budget, bad-base}
 use Rattle.defs.specs.Table.{table_fits}
-use Rattle.trials.specs.declared.Answer.{Answer}
-use Rattle.trials.specs.declared.Answer.TheVariants.{BadLine, BadSheet, BadBudget, BadBase}
-use Rattle.trials.specs.declared.Checked.{Checked}
-use Rattle.trials.specs.declared.Checked.TheVariants.{Good, Bad}
+use Rattle.trials.specs.declared.Refused.{Refused}
+use Rattle.trials.specs.declared.Refused.TheVariants.{BadLine, BadSheet, BadBudget, BadBase}
 use Rattle.trials.specs.Told.{says, listed_call, LineAccepted, checked_of}
 
 -- ---- the checks, in their order
 
 module _ (line sheet : List ℕ) (budget base : ℕ) where
-  pub bytes-bad : (p : ℕ) → fault_at line ≡ Some p → Bad (BadLine p) ≡ checked_of line sheet budget base
+  pub bytes-bad : (p : ℕ) → fault_at line ≡ Some p → Err (BadLine p) ≡ checked_of line sheet budget base
   unfolding checked_of
   bytes-bad p e = sym (rw (checked_of, e))
 
   module _ (bytes : fault_at line ≡ None) where
-    pub extents-bad : sheet_fits sheet (length line) ≡ false → Bad BadSheet ≡ checked_of line sheet budget base
+    pub extents-bad : sheet_fits sheet (length line) ≡ false → Err BadSheet ≡ checked_of line sheet budget base
     unfolding checked_of
     extents-bad e = sym (rw (checked_of, bytes, e))
 
     module _ (extents : sheet_fits sheet (length line) ≡ true) where
-      refused : budget_fits budget ≡ false → Bad BadBudget ≡ checked_of line sheet budget base
+      refused : budget_fits budget ≡ false → Err BadBudget ≡ checked_of line sheet budget base
       unfolding checked_of
       refused e = sym (rw (checked_of, bytes, extents, e))
 
-      pub budget-none : budget ≡ 0 → Bad BadBudget ≡ checked_of line sheet budget base
+      pub budget-none : budget ≡ 0 → Err BadBudget ≡ checked_of line sheet budget base
       unfolding budget_fits
       budget-none e = refused (and-false-left (leb 1 budget) (leb budget 1000000) (lt-leb 1 budget (omega arith)))
 
-      pub budget-great : 1000000 < budget → Bad BadBudget ≡ checked_of line sheet budget base
+      pub budget-great : 1000000 < budget → Err BadBudget ≡ checked_of line sheet budget base
       unfolding budget_fits
       budget-great h = refused (and-false-right (leb 1 budget) (leb budget 1000000) (lt-leb budget 1000000 h))
 
       module _ (visits : budget_fits budget ≡ true) where
-        beyond : base_fits base ≡ false → Bad BadBase ≡ checked_of line sheet budget base
+        beyond : base_fits base ≡ false → Err BadBase ≡ checked_of line sheet budget base
         unfolding checked_of
         beyond e = sym (rw (checked_of, bytes, extents, visits, e))
 
-        accepted : base_fits base ≡ true → Good ≡ checked_of line sheet budget base
+        accepted : base_fits base ≡ true → Ok tt ≡ checked_of line sheet budget base
         unfolding checked_of
         accepted e = sym (rw (checked_of, bytes, extents, visits, e))
 
@@ -60,20 +58,20 @@ module _ (line sheet : List ℕ) (budget base : ℕ) where
         unfolding budget_fits
         within = and_both (leb 1 budget) (leb budget 1000000) (le-leb 1 budget (omega (arith, ne))) (le-leb budget 1000000 most)
 
-        pub base-great : 4294967175 < base → Bad BadBase ≡ checked_of line sheet budget base
+        pub base-great : 4294967175 < base → Err BadBase ≡ checked_of line sheet budget base
         unfolding base_fits
         base-great h = beyond within (lt-leb base 4294967175 h)
 
-        pub all-good : base ≤ 4294967175 → Good ≡ checked_of line sheet budget base
+        pub all-good : base ≤ 4294967175 → Ok tt ≡ checked_of line sheet budget base
         unfolding base_fits
         all-good h = accepted within (le-leb base 4294967175 h)
 
   -- ---- what they find
 
   -- the line's checks accept, or refuse with what the whole call tells, whichever rules of an accepted table it tries
-  data CheckedAs : Checked → Type 0 where
-    accepts : LineAccepted line sheet budget base → CheckedAs Good
-    refuses : {a : Answer} → ((t : List ℕ) → table_fits t ≡ true → (rules : List (ℕ × ℕ)) (b : List ℕ) → says a b ≡ listed_call rules t line sheet budget base b) → CheckedAs (Bad a)
+  data CheckedAs : Result Unit Refused → Type 0 where
+    accepts : LineAccepted line sheet budget base → CheckedAs (Ok tt)
+    refuses : {a : Refused} → ((t : List ℕ) → table_fits t ≡ true → (rules : List (ℕ × ℕ)) (b : List ℕ) → says (Err a) b ≡ listed_call rules t line sheet budget base b) → CheckedAs (Err a)
 
   checked-as : CheckedAs (checked_of line sheet budget base)
   checked-as = by-line (fault_at line) refl
@@ -103,16 +101,16 @@ module _ (line sheet : List ℕ) (budget base : ℕ) where
       by-line None f = by-sheet f
       by-line (Some p) f = subst CheckedAs (bytes-bad p f) (refuses (λ t table rules b. sym (bad-line (λ s. rules) t line sheet budget base b p table f)))
 
-  module _ {r : Checked} (is : r ≡ checked_of line sheet budget base) where
+  module _ {r : Result Unit Refused} (is : r ≡ checked_of line sheet budget base) where
     -- a refusal of the line's checks is the whole call's, for an accepted table
-    pub refused-tells : {a : Answer} → r ≡ Bad a → (t : List ℕ) → table_fits t ≡ true → (rules : List (ℕ × ℕ)) (b : List ℕ) → says a b ≡ listed_call rules t line sheet budget base b
+    pub refused-tells : {a : Refused} → r ≡ Err a → (t : List ℕ) → table_fits t ≡ true → (rules : List (ℕ × ℕ)) (b : List ℕ) → says (Err a) b ≡ listed_call rules t line sheet budget base b
     refused-tells e = go (subst CheckedAs (sym is ∙ e) checked-as)
       where
-        go : {a : Answer} → CheckedAs (Bad a) → (t : List ℕ) → table_fits t ≡ true → (rules : List (ℕ × ℕ)) (b : List ℕ) → says a b ≡ listed_call rules t line sheet budget base b
+        go : {a : Refused} → CheckedAs (Err a) → (t : List ℕ) → table_fits t ≡ true → (rules : List (ℕ × ℕ)) (b : List ℕ) → says (Err a) b ≡ listed_call rules t line sheet budget base b
         go (refuses k) = k
 
-    pub accepted-by : r ≡ Good → LineAccepted line sheet budget base
+    pub accepted-by : r ≡ Ok tt → LineAccepted line sheet budget base
     accepted-by e = go (subst CheckedAs (sym is ∙ e) checked-as)
       where
-        go : CheckedAs Good → LineAccepted line sheet budget base
+        go : CheckedAs (Ok tt) → LineAccepted line sheet budget base
         go (accepts a) = a

@@ -18,7 +18,7 @@ use Rattle.readings.specs.Lookup.{found_pairs}
 use Rattle.readings.specs.Records.{pair_of}
 use Rattle.readings.specs.Call.{call_with, scan_call, lookup_call}
 use Rattle.readings.proofs.Records.{few-records, top-many, found-many, top_below, found_below, top-pairs, found-pairs}
-use Rattle.places.specs.Places.{PlaceAsked}
+use Rattle.places.specs.Places.{PlaceAsked, Placed, PlacedAt}
 use Rattle.walk.proofs.Held.{held-is, member-at}
 use Rattle.trials.specs.Told.{listed_call, Chosen, all_tops, by_prefix}
 
@@ -51,6 +51,16 @@ module _ (t line buffer b : List ℕ) (n : ℕ) (ok : table_fits t ≡ true) (lo
       let k = ap (found_rules t) (prefix-is line p is) in
       (i ∙ k, omega (arith, j, ap length k, found-many t line [] ok (line_prefix line) (prefix-few line)))
 
+-- ---- rules that are placed, where they stand at a buffer's start
+
+pub placed_first : {t places : List ℕ} (rules : List ℕ) (n : ℕ) → n ≤ length rules → Placed t places rules n → Placed t places (take n rules) (length (take n rules))
+placed_first {t} {places} rules n fits placed =
+    let long : length (take n rules) ≡ n = length-take-le n rules fits in
+    record {
+      sized = placed.sized;
+      each = λ i h. subst (PlacedAt t places) (sym (get_or-take n rules i 0 (omega arith))) (placed.each i (omega arith));
+    }
+
 -- ---- rules of the table
 
 module _ (t line : List ℕ) (ok : table_fits t ≡ true) where
@@ -58,14 +68,18 @@ module _ (t line : List ℕ) (ok : table_fits t ≡ true) where
   chosen-below {rules} {i} (all_tops e) m = top_below t line [] ok (subst (Memᴰ i) e m)
   chosen-below {rules} {i} (by_prefix e) m = found_below t line [] ok (line_prefix line) (subst (Memᴰ i) e m)
 
-  pub chosen_at : (rules : List ℕ) (n : ℕ) → Chosen t line (take n rules) → n ≤ length rules → (i : ℕ) → i < n → get_or rules i 0 < records_in t
-  chosen_at rules n c fits i h =
+  pub chosen_at : (rules : List ℕ) → Chosen t line rules → (i : ℕ) → i < length rules → get_or rules i 0 < records_in t
+  chosen_at rules c i h = chosen-below c (member-at rules i h)
+
+  -- so of those at a buffer's start
+  pub chosen_first : (rules : List ℕ) (n : ℕ) → Chosen t line (take n rules) → n ≤ length rules → (i : ℕ) → i < n → get_or rules i 0 < records_in t
+  chosen_first rules n c fits i h =
       subst (λ (x : ℕ). x < records_in t) (get_or-take n rules i 0 h)
-      (chosen-below c (member-at (take n rules) i (omega (arith, length-take-le n rules fits))))
+      (chosen_at (take n rules) c i (omega (arith, length-take-le n rules fits)))
 
   pub chosen-places : (starts rules places : List ℕ) (n : ℕ) → starts ≡ starts_of t → Chosen t line (take n rules) → n ≤ length rules → length places ≡ 2048
       → PlaceAsked t starts rules places n
-  chosen-places starts rules places n begins c fits sized = record { table = ok; begins = begins; fits = fits; below = chosen_at rules n c fits; sized = sized }
+  chosen-places starts rules places n begins c fits sized = record { table = ok; begins = begins; fits = fits; below = chosen_first rules n c fits; sized = sized }
 
   -- ---- the call that tries them is the scan's, or lookup's
 

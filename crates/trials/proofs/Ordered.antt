@@ -3,6 +3,7 @@
 use mathlib.Core.Path.{◌≡◌, sym, ap, ◌∙◌}
 use mathlib.Core.Bool.{true, false}
 use mathlib.Core.List.{List, map}
+use Rattle.std.specs.Prelude.{Result, Err}
 use Prim.Native.Nat.{ℕ, ◌≤◌}
 use lib.ListN.{length, take}
 use Rattle.plain.specs.Told.{Told}
@@ -16,10 +17,8 @@ use Rattle.readings.proofs.Calls.{bad-table}
 use Rattle.readings.proofs.Bounds as Bounds
 use Rattle.readings.proofs.Scan.{Enough, scan-enough}
 use Rattle.readings.proofs.Lookups.{lookup-enough}
-use Rattle.trials.specs.declared.Answer.{Answer}
-use Rattle.trials.specs.declared.Answer.TheVariants.{BadTable}
-use Rattle.trials.specs.declared.Checked.{Checked}
-use Rattle.trials.specs.declared.Checked.TheVariants.{Bad}
+use Rattle.trials.specs.declared.Refused.{Refused}
+use Rattle.trials.specs.declared.Refused.TheVariants.{BadTable}
 use Rattle.trials.specs.declared.Order.{Order}
 use Rattle.trials.specs.declared.Order.TheVariants.{Scan, Lookup}
 use Rattle.trials.specs.Told.{says, listed_call, checked_of, Chosen, all_tops, by_prefix}
@@ -39,11 +38,11 @@ module _ (t line buffer b : List ℕ) (n : ℕ) (how : Order) (ok : table_fits t
 -- ---- the whole call
 
 module _ (how : Order) (t line sheet : List ℕ) (budget base : ℕ) (b : List ℕ) where
-  pub table-refused : table_fits t ≡ false → says BadTable b ≡ call_with (order_of how) t line sheet budget base b
+  pub table-refused : table_fits t ≡ false → says (Err BadTable) b ≡ call_with (order_of how) t line sheet budget base b
   table-refused e = sym (bad-table (order_of how) t line sheet budget base b e)
 
   module _ (ok : table_fits t ≡ true) where
-    pub line_refused : {r : Checked} {a : Answer} → r ≡ checked_of line sheet budget base → r ≡ Bad a → says a b ≡ call_with (order_of how) t line sheet budget base b
+    pub line_refused : {r : Result Unit Refused} {a : Refused} → r ≡ checked_of line sheet budget base → r ≡ Err a → says (Err a) b ≡ call_with (order_of how) t line sheet budget base b
     unfolding call_with
     line_refused c e = refused-tells line sheet budget base c e t ok (order_of how (based base (scene_of t line sheet))) b
 

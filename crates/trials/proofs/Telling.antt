@@ -4,10 +4,11 @@ use mathlib.Core.Path.{◌≡◌, refl, sym, ap, subst, ◌∙◌}
 use mathlib.Core.Bool.{true}
 use mathlib.Core.List.Memᴰ
 use mathlib.Core.List.{List, [], ◌∷◌, ◌++◌, map, Memᴰ}
+use Rattle.std.specs.Prelude.{Result, Ok, Err}
 use Prim.Native.Nat.{ℕ, ◌-◌, ◌≤◌, ◌<◌}
 use native.Mathlib.Omega.{arith}
 use lib.Dec.{eqb}
-use lib.ListN.{length, take, drop}
+use lib.ListN.{length, drop}
 use borrow.Author.Tests.{eq-eqb}
 use Rattle.plain.specs.Lists.{keep_if}
 use Rattle.plain.specs.Told.{Told}
@@ -37,10 +38,10 @@ use Rattle.pool.specs.Meaning.{gathered, meaning, meanings}
 use Rattle.pool.proofs.Meanings.{meanings-more}
 use Rattle.answer.specs.Measured.{trees_in, measured, FitFrom}
 use Rattle.answer.specs.declared.Measure.{Measure}
-use Rattle.trials.specs.declared.Answer.{Answer}
-use Rattle.trials.specs.declared.Answer.TheVariants.{Matched, NoMatch, TooLong}
+use Rattle.trials.specs.declared.Refused.{Refused}
+use Rattle.trials.specs.declared.Refused.TheVariants.{NoMatch, TooLong}
+use Rattle.walk.specs.declared.Stopped.{Stopped}
 use Rattle.walk.specs.declared.Walked.{Walked}
-use Rattle.walk.specs.declared.Walked.TheVariants.{Done, Stopped}
 use Rattle.walk.specs.declared.Refusal.{Refusal}
 use Rattle.walk.specs.Met.{number_of}
 use Rattle.trials.proofs.Choices.{chosen_at}
@@ -87,10 +88,10 @@ module _ (t : List ℕ) (base : ℕ) (ts : List Tree) (v : ℕ) (b : List ℕ) (
   words_placed : found.words ≡ length (answer_words s placed)
   words_placed = words_of ∙ sym (many-moved s base ts)
 
-  pub tell_none : found.matches ≡ 0 → says (NoMatch v) b ≡ matched s v placed b
+  pub tell_none : found.matches ≡ 0 → says (Err (NoMatch v)) b ≡ matched s v placed b
   tell_none e = go ts (sym count_of ∙ e)
     where
-      go : (ts : List Tree) → length (best s ts) ≡ 0 → says (NoMatch v) b ≡ matched s v (map (moved base) ts) b
+      go : (ts : List Tree) → length (best s ts) ≡ 0 → says (Err (NoMatch v)) b ≡ matched s v (map (moved base) ts) b
       go [] e = refl
       go (u ∷ us) e = absurd (best-some s u us e)
 
@@ -103,12 +104,12 @@ module _ (t : List ℕ) (base : ℕ) (ts : List Tree) (v : ℕ) (b : List ℕ) (
       go (u ∷ us) ne = refl
 
   module _ (ne : found.matches ≡ 0 → ⊥) where
-    pub tell-long : length b < found.words → says (TooLong v found.words) b ≡ matched s v placed b
-    tell-long h = ap (λ (n : ℕ). says (TooLong v n) b) words_placed ∙ sym (some-match ne ∙ Calls.short s v b (answer_words s placed) (omega (arith, words_placed)))
+    pub tell-long : length b < found.words → says (Err (TooLong v found.words)) b ≡ matched s v placed b
+    tell-long h = ap (λ (n : ℕ). says (Err (TooLong v n)) b) words_placed ∙ sym (some-match ne ∙ Calls.short s v b (answer_words s placed) (omega (arith, words_placed)))
 
-    pub tell-matched : (b' : List ℕ) → found.words ≤ length b → b' ≡ answer_words s placed ++ drop (length (answer_words s placed)) b → says (Matched v found.words) b' ≡ matched s v placed b
+    pub tell-matched : (b' : List ℕ) → found.words ≤ length b → b' ≡ answer_words s placed ++ drop (length (answer_words s placed)) b → says (Ok (record { visits = v; words = found.words })) b' ≡ matched s v placed b
     tell-matched b' h e =
-        ap (λ (n : ℕ). says (Matched v n) b') words_placed ∙ ap (says (Matched v (length (answer_words s placed)))) e
+        ap (λ (n : ℕ). says (Ok (record { visits = v; words = n })) b') words_placed ∙ ap (says (Ok (record { visits = v; words = length (answer_words s placed) }))) e
         ∙ sym (some-match ne ∙ Calls.fits s v b (answer_words s placed) (omega (arith, words_placed)))
 
 -- ---- the whole call
@@ -122,19 +123,19 @@ module _ (t line sheet rules : List ℕ) (base : ℕ) (ok : table_fits t ≡ tru
   chosen-enough (all_tops e) = subst (Enough here) (top-pairs t line sheet ok ∙ ap (map (pair_of t)) (sym e)) (scan-enough here law)
   chosen-enough (by_prefix e) = subst (Enough here) (found-pairs t line sheet ok (line_prefix line) ∙ ap (map (pair_of t)) (sym e)) (lookup-enough here law)
 
-pub listed_by : {t : List ℕ} {o : Outcome (List Match)} {store : List ℕ} {r : Walked} {left : ℕ} {pool : Pool} → Tried t o store r → r ≡ Done left pool → Listed t o store left pool
+pub listed_by : {t : List ℕ} {o : Outcome (List Match)} {store : List ℕ} {r : Result Walked Stopped} {w : Walked} → Tried t o store r → r ≡ Ok w → Listed t o store w.left w.pool
 listed_by {t} {o} {store} m e = go (subst (Tried t o store) e m)
   where
-    go : {left : ℕ} {pool : Pool} → Tried t o store (Done left pool) → Listed t o store left pool
+    go : {w : Walked} → Tried t o store (Ok w) → Listed t o store w.left w.pool
     go (listed x) = x
 
-pub stopped-by : {t : List ℕ} {o : Outcome (List Match)} {store : List ℕ} {r : Walked} {why : Refusal} {left : ℕ} → Tried t o store r → r ≡ Stopped why left → o ≡ stop (number_of why) left
+pub stopped-by : {t : List ℕ} {o : Outcome (List Match)} {store : List ℕ} {r : Result Walked Stopped} {s : Stopped} → Tried t o store r → r ≡ Err s → o ≡ stop (number_of s.why) s.left
 stopped-by {t} {o} {store} m e = go (subst (Tried t o store) e m)
   where
-    go : {why : Refusal} {left : ℕ} → Tried t o store (Stopped why left) → o ≡ stop (number_of why) left
+    go : {s : Stopped} → Tried t o store (Err s) → o ≡ stop (number_of s.why) s.left
     go (stopped x) = x
 
-module _ {t line sheet starts places store₀ rules : List ℕ} {count budget base : ℕ} (asked : ReadAsked t line sheet starts places store₀ rules count budget base) where
+module _ {t line sheet starts places store₀ rules : List ℕ} {budget base : ℕ} (asked : ReadAsked t line sheet starts places store₀ rules budget base) where
   ok : Accepted t line sheet budget base
   ok = record { table = asked.table; bytes = asked.lined.bytes; extents = asked.lined.extents; visits = asked.lined.visits; origin = asked.lined.origin }
 
@@ -150,7 +151,7 @@ module _ {t line sheet starts places store₀ rules : List ℕ} {count budget ba
   ok-alone = record { table = ok.table; bytes = ok.bytes; extents = ok.extents; visits = ok.visits; origin = refl }
 
   abbrev pairs : List (ℕ × ℕ)
-  pairs = tried_pairs t rules count
+  pairs = tried_pairs t rules
 
   abbrev walked : Outcome (List Match)
   walked = run (tries scene pairs) budget 0
@@ -164,7 +165,7 @@ module _ {t line sheet starts places store₀ rules : List ℕ} {count budget ba
   -- alone is at base 0
   enough : Enough scene pairs
   unfolding scene_of based
-  enough = chosen-enough t line sheet (take count rules) 0 asked.table (lawful-based 0 law) asked.chosen
+  enough = chosen-enough t line sheet rules 0 asked.table (lawful-based 0 law) asked.chosen
 
   small-alone : Small scene
   unfolding scene_of based
@@ -177,17 +178,16 @@ module _ {t line sheet starts places store₀ rules : List ℕ} {count budget ba
   pub line-good : GoodLine line
   line-good = (good-is line).0 asked.lined.bytes
 
-  pub try-asked : TryAsked t line sheet starts places store₀ rules count budget
+  pub try-asked : TryAsked t line sheet starts places store₀ rules budget
   try-asked = record {
     accepted = ok-alone;
     begins = asked.begins;
     placed = asked.placed;
     sized = asked.sized;
-    fits = asked.fits;
-    below = chosen_at t line asked.table rules count asked.chosen asked.fits;
+    below = chosen_at t line asked.table rules asked.chosen;
   }
 
-  says-stopped : (why : Refusal) (v : ℕ) (b : List ℕ) → says (stopped_by why v) b ≡ stopped_after (number_of why) v b
+  says-stopped : (why : Refusal) (v : ℕ) (b : List ℕ) → says (Err (stopped_by why v)) b ≡ stopped_after (number_of why) v b
   says-stopped Refusal.Spent v b = refl
   says-stopped Refusal.Deep v b = refl
   says-stopped Refusal.Full v b = refl
@@ -196,9 +196,9 @@ module _ {t line sheet starts places store₀ rules : List ℕ} {count budget ba
     pub call-within : left ≤ budget
     call-within = stop-left (tries scene pairs) budget 0 e
 
-    pub call-stopped : (a : Answer) (v : ℕ) (b : List ℕ) → v ≡ budget - left → a ≡ stopped_by why v → says a b ≡ listed_call pairs t line sheet budget base b
+    pub call-stopped : (a : Refused) (v : ℕ) (b : List ℕ) → v ≡ budget - left → a ≡ stopped_by why v → says (Err a) b ≡ listed_call pairs t line sheet budget base b
     call-stopped a v b n q =
-        ap (λ (x : Answer). says x b) q ∙ says-stopped why v b ∙ ap (λ (k : ℕ). stopped_after (number_of why) k b) n
+        ap (λ (x : Refused). says (Err x) b) q ∙ says-stopped why v b ∙ ap (λ (k : ℕ). stopped_after (number_of why) k b) n
         ∙ sym (Calls.stopped (λ s. pairs) t line sheet budget base b ok (number_of why) left (run-based t line sheet base pairs budget 0 ∙ ap (mapped_end (moved_match base)) e))
 
   module _ {store : List ℕ} {left : ℕ} {pool : Pool} (l : Listed t walked store left pool) where
@@ -220,7 +220,7 @@ module _ {t line sheet starts places store₀ rules : List ℕ} {count budget ba
     fit = record {
       each = λ u m.
           tree-fit placed_scene law-placed (small t line sheet budget base ok) pairs
-          (chosen-enough t line sheet (take count rules) base asked.table law-placed asked.chosen) budget done-placed (moved base u)
+          (chosen-enough t line sheet rules base asked.table law-placed asked.chosen) budget done-placed (moved base u)
           (subst (Memᴰ (moved base u)) trees-placed (Memᴰ.map (moved base) m));
     }
 

@@ -2,15 +2,15 @@
 use mathlib.Core.Path.{◌≡◌, refl, sym, ap, ap₂, subst, ◌∙◌}
 use mathlib.Core.Bool.{Bool}
 use mathlib.Core.List.{List, [], ◌∷◌, ◌++◌, map, map-id}
+use Rattle.std.specs.Prelude.{Option, Some, Result, Ok, Err}
 use Prim.Native.Nat.{ℕ, ◌+◌, ◌*◌, ◌-◌, ◌≤◌, ◌<◌}
 use native.Mathlib.Omega.{arith}
 use lib.Dec.{eqb}
 use lib.ListN.{length, get_or, take}
-use lib.Seq.{get_or-take, length-take-le}
 use Rattle.syntax.specs.declared.walker.Walker.{Walker}
 use Rattle.defs.specs.Table.{records_in, ruleset_at, parts_between, rule_span}
 use Rattle.defs.specs.declared.ruledef.Part.{Part}
-use Rattle.defs.specs.declared.ruledef.Parts.{Parts}
+use Rattle.std.specs.declared.ops.Range.{Range}
 use Rattle.defs.proofs.Words.{parts_whole}
 use Rattle.line.proofs.Lines.{good-is}
 use Rattle.readings.specs.Scene.{Scene, scene_of}
@@ -31,15 +31,13 @@ use Rattle.pool.proofs.Meanings.{earlier-none}
 use Rattle.pool.proofs.Counts.{counted_none}
 use Rattle.pool.proofs.Passing.{so-start}
 use Rattle.walk.specs.declared.Place.{Place}
+use Rattle.walk.specs.declared.Stopped.{Stopped}
 use Rattle.walk.specs.declared.Walked.{Walked}
-use Rattle.walk.specs.declared.Walked.TheVariants.{Done, Stopped}
-use Rattle.walk.specs.declared.Refusal.{Refusal}
 use Rattle.walk.specs.declared.Refusal.TheVariants.{Spent}
 use Rattle.walk.specs.Met.{finishes, parts_plan, rule_plan, ran, Ready, to_come, Stands, Made, whole_at, Left}
 use Rattle.ruledef_map.specs.RuledefMap.{rule_prefix}
-use Rattle.leads.specs.declared.Ahead.{Ahead}
 use Rattle.leads.specs.Leads.{ahead_of, failing_of, Leads}
-use Rattle.leads.proofs.Told.{lead-tells}
+use Rattle.leads.proofs.Told.{lead-tells, told-some}
 use Rattle.places.specs.Places.{PlacedAt}
 use Rattle.places.proofs.Words.{table-short}
 use Rattle.trials.specs.Told.{TryAsked, Tried, listed, stopped}
@@ -63,24 +61,21 @@ unfolding tries each
 tries-are t line sheet [] = refl
 tries-are t line sheet (i ∷ is) = ap (λ (p : Plan (List Match)). trial_of t line sheet i then λ a. p then λ b. give (a ++ b)) (tries-are t line sheet is)
 
-module _ {t line sheet starts places store₀ rules : List ℕ} {count visits : ℕ} (asked : TryAsked t line sheet starts places store₀ rules count visits) where
+module _ {t line sheet starts places store₀ rules : List ℕ} {visits : ℕ} (asked : TryAsked t line sheet starts places store₀ rules visits) where
   abbrev s : Scene
   s = scene_of t line sheet
 
   short : length line ≤ 120
   short = ((good-is line).0 asked.accepted.bytes).short
 
-  pub tries-start : (pool : Pool) → pool.used ≡ 0 → TriesDid t line sheet (take count rules) visits pool.used store₀ 0 visits pool.used store₀
+  pub tries-start : (pool : Pool) → pool.used ≡ 0 → TriesDid t line sheet rules visits pool.used store₀ 0 visits pool.used store₀
   tries-start pool e =
       did_none t (trial_of t line sheet) itself 0 visits pool.used store₀
       (record { sized = asked.sized; room = omega (arith, e); earlier = subst Earlier (sym (ap (log_of store₀) e ∙ log-none store₀)) earlier-none })
       (subst (Counted (scene_of t [] [])) (sym (ap (log_of store₀) e ∙ log-none store₀)) (counted_none (scene_of t [] [])))
 
-  long : length (take count rules) ≡ count
-  long = length-take-le count rules asked.fits
-
-  module _ (i : ℕ) {u₀ v u : ℕ} {store : List ℕ} (did : TriesDid t line sheet (take count rules) visits u₀ store₀ i v u store) where
-    module _ (h : i < count) (rule : ℕ) (rule-is : rule ≡ get_or rules i 0) where
+  module _ (i : ℕ) {u₀ v u : ℕ} {store : List ℕ} (did : TriesDid t line sheet rules visits u₀ store₀ i v u store) where
+    module _ (h : i < length rules) (rule : ℕ) (rule-is : rule ≡ get_or rules i 0) where
       known : rule < records_in t
       known = subst (λ (x : ℕ). x < records_in t) (sym rule-is) (asked.below i h)
 
@@ -91,30 +86,30 @@ module _ {t line sheet starts places store₀ rules : List ℕ} {count visits : 
       pub words-there : (rule < 512) × (4 * rule + 3 < length places)
       words-there = let few : rule < 512 = omega (arith, known, few-records t line sheet asked.accepted.table) in (few, omega (arith, few, asked.placed.sized))
 
-      listed-there : rule ≡ get_or (take count rules) i 0
-      listed-there = rule-is ∙ sym (get_or-take count rules i 0 h)
-
       -- a rule that fails in its leading exact parts, told by its lead, is counted without a walk
       module _ {leads : List ℕ} (led : Leads t leads) (bytes : (j : ℕ) → get_or line j 0 < 256) (w : Walker) (start : w.cursor ≡ 0) (end_of_lem : w.limit ≡ length line)
-          (wanted : Bool) {a : Ahead} {fails : ℕ} (a-is : a ≡ ahead_of wanted line w.limit w.cursor) (fails-are : fails ≡ failing_of (get_or leads rule 0) a) (some : 0 < fails) where
+          (wanted : Bool) {a : Option ℕ} {fails : ℕ} (a-is : a ≡ ahead_of wanted line w.limit w.cursor) (fails-are : Some fails ≡ failing_of (get_or leads rule 0) a) where
+        some : 0 < fails
+        some = told-some (get_or leads rule 0) a fails-are
+
         fails-so : fails ≡ failing (rule_prefix (s.parts (pair_of t rule).0 (pair_of t rule).1)) (ahead line (length line) 0)
         fails-so =
-            lead-tells t line asked.accepted.table bytes (length line) 0 rule known wanted (led.each rule) (a-is ∙ ap₂ (ahead_of wanted line) end_of_lem start) fails-are some
+            lead-tells t line asked.accepted.table bytes (length line) 0 rule known wanted (led.each rule) (a-is ∙ ap₂ (ahead_of wanted line) end_of_lem start) fails-are
             ∙ ap (λ (ps : List Part). failing (rule_prefix ps) (ahead line (length line) 0)) (sym (pair_parts t line sheet asked.accepted.table rule known))
 
-        pub tries-skip : fails ≤ v → TriesDid t line sheet (take count rules) visits u₀ store₀ (i + 1) (v - fails) u store
+        pub tries-skip : fails ≤ v → TriesDid t line sheet rules visits u₀ store₀ (i + 1) (v - fails) u store
         unfolding trial scene_of
         tries-skip enough =
-            index-more (trial_of t line sheet) itself 0 (take count rules) i did (omega (arith, long)) rule 0 listed-there (v - fails) u store []
+            index-more (trial_of t line sheet) itself 0 rules i did h rule 0 rule-is (v - fails) u store []
             (fails-done s (under s depths) (eqb (length line)) (s.parts (pair_of t rule).0 (pair_of t rule).1) (length line) 0 (omega arith) (omega arith) fails fails-so some (named (pair_of t rule).0 (pair_of t rule).1) v u enough)
             (made_none 0 (log_of store u) did.stored.earlier) did.stored.sized did.counted
 
-        pub tries-spent : v < fails → u₀ ≡ 0 → Tried t (run (tries s (map (pair_of t) (take count rules))) visits 0) store (Stopped Spent 0)
+        pub tries-spent : v < fails → u₀ ≡ 0 → Tried t (run (tries s (map (pair_of t) rules)) visits 0) store (Err (record { why = Spent; left = 0 }))
         unfolding trial scene_of
         tries-spent few z =
             stopped
-            (ap (λ (p : Plan (List Match)). run p visits 0) (tries-are t line sheet (take count rules)) ∙ ap (run (each (take count rules) (trial_of t line sheet)) visits) (sym z)
-            ∙ index-stop (trial_of t line sheet) itself 0 (take count rules) i did (omega (arith, long)) rule 0 listed-there
+            (ap (λ (p : Plan (List Match)). run p visits 0) (tries-are t line sheet rules) ∙ ap (run (each rules (trial_of t line sheet)) visits) (sym z)
+            ∙ index-stop (trial_of t line sheet) itself 0 rules i did h rule 0 rule-is
             (fails-stop s (under s depths) (eqb (length line)) (s.parts (pair_of t rule).0 (pair_of t rule).1) (length line) 0 (omega arith) (omega arith) fails fails-so some (named (pair_of t rule).0 (pair_of t rule).1) v u few))
 
       in-ruleset : ruleset_at t rule < 32
@@ -132,12 +127,12 @@ module _ {t line sheet starts places store₀ rules : List ℕ} {count visits : 
       unfolding pair_of
       number_is = placed-here.number
 
-      parts : Parts
-      parts = record { at = get_or places (4 * rule + 2) 0; end = get_or places (4 * rule + 3) 0 }
+      parts : Range ℕ
+      parts = record { start = get_or places (4 * rule + 2) 0; end = get_or places (4 * rule + 3) 0 }
 
       span : parts ≡ rule_span t rule
       unfolding parts
-      span = λ k. record { at = placed-here.from k; end = placed-here.to k }
+      span = λ k. record { start = placed-here.from k; end = placed-here.to k }
 
       pub fields-small : (get_or places (4 * rule) 0 < 32) × (get_or places (4 * rule + 1) 0 < 512) × (get_or places (4 * rule + 2) 0 < 65536) × (get_or places (4 * rule + 3) 0 < 65536)
       unfolding parts
@@ -206,7 +201,7 @@ module _ {t line sheet starts places store₀ rules : List ℕ} {count visits : 
             ∙ ap (λ (l : ℕ). walk s (under s depths) (eqb (length line)) (s.parts (pair_of t rule).0 (pair_of t rule).1) l w.cursor) end_of_lem
             ∙ ap (λ (c : ℕ). walk s (under s depths) (eqb (length line)) (s.parts (pair_of t rule).0 (pair_of t rule).1) (length line) c) start
 
-        module _ {has : Pool} (used : has.used ≡ u) {r : Walked} {store'' : List ℕ}
+        module _ {has : Pool} (used : has.used ≡ u) {r : Result Walked Stopped} {store'' : List ℕ}
             (m : Left t (ran planned v has) there (log_of store has.used) store'' r) where
           ran-is : ran planned v has ≡ run walked v u
           ran-is = ap (λ (p : Plan (List Found)). run p v has.used) plan-is ∙ ap (run walked v) used
@@ -219,33 +214,33 @@ module _ {t line sheet starts places store₀ rules : List ℕ} {count visits : 
           all_named [] = refl
           all_named (x ∷ xs) = λ k. named-is x k ∷ all_named xs k
 
-          pub tries-again : {l : ℕ} {q : Pool} → r ≡ Done l q → length store'' ≡ 4096 → TriesDid t line sheet (take count rules) visits u₀ store₀ (i + 1) l q.used store''
+          pub tries-again : {now : Walked} → r ≡ Ok now → length store'' ≡ 4096 → TriesDid t line sheet rules visits u₀ store₀ (i + 1) now.left now.pool.used store''
           unfolding trial scene_of
-          tries-again {l} {q} e z =
+          tries-again {now} e z =
               let x = reached m e in
               let found = map (named (pair_of t rule).0 (pair_of t rule).1) x.founds in
-              index-more (trial_of t line sheet) itself 0 (take count rules) i did (omega (arith, long)) rule 0 listed-there l q.used store'' found
+              index-more (trial_of t line sheet) itself 0 rules i did h rule 0 rule-is now.left now.pool.used store'' found
               (mapped-done (named (pair_of t rule).0 (pair_of t rule).1) walked v u (sym ran-is ∙ x.done_with))
-              (subst (λ (n : ℕ). Made 0 (log_of store n) (log_of store'' q.used) (map itself found)) used
-              (subst (Made 0 (log_of store has.used) (log_of store'' q.used)) (all_named x.founds ∙ sym (map-id found)) x.made))
+              (subst (λ (n : ℕ). Made 0 (log_of store n) (log_of store'' now.pool.used) (map itself found)) used
+              (subst (Made 0 (log_of store has.used) (log_of store'' now.pool.used)) (all_named x.founds ∙ sym (map-id found)) x.made))
               z x.counted
 
-          pub tries-stop : {why : Refusal} {l : ℕ} → r ≡ Stopped why l → u₀ ≡ 0 → Tried t (run (tries s (map (pair_of t) (take count rules))) visits 0) store'' (Stopped why l)
+          pub tries-stop : {stop : Stopped} → r ≡ Err stop → u₀ ≡ 0 → Tried t (run (tries s (map (pair_of t) rules)) visits 0) store'' (Err stop)
           unfolding trial scene_of
           tries-stop e z =
               stopped
-              (ap (λ (p : Plan (List Match)). run p visits 0) (tries-are t line sheet (take count rules)) ∙ ap (run (each (take count rules) (trial_of t line sheet)) visits) (sym z)
-              ∙ index-stop (trial_of t line sheet) itself 0 (take count rules) i did (omega (arith, long)) rule 0 listed-there
+              (ap (λ (p : Plan (List Match)). run p visits 0) (tries-are t line sheet rules) ∙ ap (run (each rules (trial_of t line sheet)) visits) (sym z)
+              ∙ index-stop (trial_of t line sheet) itself 0 rules i did h rule 0 rule-is
               (mapped-stop (named (pair_of t rule).0 (pair_of t rule).1) walked v u (sym ran-is ∙ refused m e)))
 
-    pub tries-end : count ≤ i → u₀ ≡ 0 → (has : Pool) → has.used ≡ u → Tried t (run (tries s (map (pair_of t) (take count rules))) visits 0) store (Done v has)
-    tries-end h z has e =
-        let all = index-end (trial_of t line sheet) itself 0 (take count rules) i did (omega (arith, long)) in
+    pub tries-end : length rules ≤ i → u₀ ≡ 0 → (w : Walked) → w.left ≡ v → w.pool.used ≡ u → Tried t (run (tries s (map (pair_of t) rules)) visits 0) store (Ok w)
+    tries-end h z w k e =
+        let all = index-end (trial_of t line sheet) itself 0 rules i did h in
         listed
         (record {
           matches = all.gave;
-          done_with = ap (λ (p : Plan (List Match)). run p visits 0) (tries-are t line sheet (take count rules)) ∙ ap (run (each (take count rules) (trial_of t line sheet)) visits) (sym z)
-              ∙ all.done_with ∙ ap (λ (n : ℕ). done v n all.gave) (sym e);
+          done_with = ap (λ (p : Plan (List Match)). run p visits 0) (tries-are t line sheet rules) ∙ ap (run (each rules (trial_of t line sheet)) visits) (sym z)
+              ∙ all.done_with ∙ ap₂ (λ (m n : ℕ). done m n all.gave) (sym k) (sym e);
           made = subst (λ (n : ℕ). Made 0 [] (log_of store n) all.gave) (sym e)
               (subst (λ (l : List Record). Made 0 l (log_of store u) all.gave) (ap (log_of store₀) z ∙ log-none store₀)
               (subst (Made 0 (log_of store₀ u₀) (log_of store u)) (map-id all.gave) all.made));

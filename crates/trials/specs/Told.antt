@@ -1,5 +1,5 @@
 -- What an answer says: document 01's number and fields for each case. And what the steps of a line's call give.
-use Rattle.std.specs.Prelude.{◌≡◌, true, not, List, [], map, ℕ, ◌≤◌, ◌<◌, length, get_or, take, Option, None, Some}
+use Rattle.std.specs.Prelude.{◌≡◌, true, not, List, [], map, ℕ, ◌≤◌, ◌<◌, length, get_or, Option, None, Some, Result, Ok, Err}
 use Rattle.plain.specs.Choice.{select}
 use Rattle.plain.specs.Told.{Told}
 use Rattle.line.specs.Line.{fault_at}
@@ -19,31 +19,30 @@ use Rattle.pool.specs.Log.{log_of}
 use Rattle.pool.specs.Meaning.{Stored}
 use Rattle.pool.specs.Counted.{Counted}
 use Rattle.answer.specs.Measured.{trees_in, Bounded, FitFrom}
-use Rattle.trials.specs.declared.Answer.{Answer}
-use Rattle.trials.specs.declared.Answer.TheVariants.{Matched, NoMatch, BadTable, BadLine, BadSheet, BadBudget, BadBase, Spent, TooDeep, PoolFull, TooLong}
-use Rattle.trials.specs.declared.Checked.{Checked}
-use Rattle.trials.specs.declared.Checked.TheVariants.{Good, Bad}
+use Rattle.trials.specs.declared.Matched.{Matched}
+use Rattle.trials.specs.declared.Refused.{Refused}
+use Rattle.trials.specs.declared.Refused.TheVariants.{NoMatch, BadTable, BadLine, BadSheet, BadBudget, BadBase, Spent, TooDeep, PoolFull, TooLong}
 use Rattle.walk.specs.declared.Refusal.{Refusal}
+use Rattle.walk.specs.declared.Stopped.{Stopped}
 use Rattle.walk.specs.declared.Walked.{Walked}
-use Rattle.walk.specs.declared.Walked.TheVariants.{Done, Stopped}
 use Rattle.walk.specs.Met.{Made, number_of}
 
 abbrev told : ℕ → ℕ → ℕ → ℕ → List ℕ → Told
 told n v w p b = record { number = n; visits = v; words = w; place = p; buffer = b }
 
 -- each answer's number, visits, words and place, with the buffer; unstated fields are 0
-abbrev pub says : Answer → List ℕ → Told
-says (Matched v w) b = told 0 v w 0 b
-says (NoMatch v) b = told 1 v 0 0 b
-says BadTable b = told 2 0 0 0 b
-says (BadLine p) b = told 3 0 0 p b
-says BadSheet b = told 4 0 0 0 b
-says BadBudget b = told 5 0 0 0 b
-says BadBase b = told 19 0 0 0 b
-says (Spent v) b = told 6 v 0 0 b
-says (TooDeep v) b = told 7 v 0 0 b
-says (PoolFull v) b = told 8 v 0 0 b
-says (TooLong v w) b = told 9 v w 0 b
+abbrev pub says : Result Matched Refused → List ℕ → Told
+says (Ok m) b = told 0 m.visits m.words 0 b
+says (Err (NoMatch v)) b = told 1 v 0 0 b
+says (Err BadTable) b = told 2 0 0 0 b
+says (Err (BadLine p)) b = told 3 0 0 p b
+says (Err BadSheet) b = told 4 0 0 0 b
+says (Err BadBudget) b = told 5 0 0 0 b
+says (Err BadBase) b = told 19 0 0 0 b
+says (Err (Spent v)) b = told 6 v 0 0 b
+says (Err (TooDeep v)) b = told 7 v 0 0 b
+says (Err (PoolFull v)) b = told 8 v 0 0 b
+says (Err (TooLong v w)) b = told 9 v w 0 b
 
 -- the whole call that tries these rules, by ruleset and number
 abbrev pub listed_call : List (ℕ × ℕ) → List ℕ → List ℕ → List ℕ → ℕ → ℕ → List ℕ → Told
@@ -56,16 +55,16 @@ pub record LineAccepted (line sheet : List ℕ) (budget base : ℕ) : Type 0 whe
   pub visits : budget_fits budget ≡ true
   pub origin : base_fits base ≡ true
 
-abbrev pub lined_check : Option ℕ → Checked → Checked
+abbrev pub lined_check : Option ℕ → Result Unit Refused → Result Unit Refused
 lined_check None r = r
-lined_check (Some p) r = Bad (BadLine p)
+lined_check (Some p) r = Err (BadLine p)
 
 -- the line's checks run 3, 4, 5, 19
-unfoldable pub checked_of : List ℕ → List ℕ → ℕ → ℕ → Checked
+unfoldable pub checked_of : List ℕ → List ℕ → ℕ → ℕ → Result Unit Refused
 checked_of line sheet budget base =
     lined_check (fault_at line)
-    (select (not (sheet_fits sheet (length line))) (Bad BadSheet)
-    (select (not (budget_fits budget)) (Bad BadBudget) (select (not (base_fits base)) (Bad BadBase) Good)))
+    (select (not (sheet_fits sheet (length line))) (Err BadSheet)
+    (select (not (budget_fits budget)) (Err BadBudget) (select (not (base_fits base)) (Err BadBase) (Ok tt))))
 
 -- the rules that a call tries, by their places in the table: the scan's, or those that the line's prefixes lead to
 pub data Chosen (t line rules : List ℕ) : Type 0 where
@@ -74,13 +73,12 @@ pub data Chosen (t line rules : List ℕ) : Type 0 where
 
 -- what trying rules asks: accepted input, an empty pool's store, rules of the table that were prepared. The walk counts places
 -- from the line's start.
-pub record TryAsked (t line sheet starts places store rules : List ℕ) (count visits : ℕ) : Type 0 where
+pub record TryAsked (t line sheet starts places store rules : List ℕ) (visits : ℕ) : Type 0 where
   pub accepted : Accepted t line sheet visits 0
   pub begins : starts ≡ starts_of t
-  pub placed : Placed t places rules count
+  pub placed : Placed t places rules (length rules)
   pub sized : length store ≡ room
-  pub fits : count ≤ length rules
-  pub below : (i : ℕ) → i < count → get_or rules i 0 < records_in t
+  pub below : (i : ℕ) → i < length rules → get_or rules i 0 < records_in t
 
 -- what trying rules leaves: the matches in the log, whose records are counted, or which of 6, 7, 8
 pub record Listed (t : List ℕ) (o : Outcome (List Match)) (store : List ℕ) (left : ℕ) (pool : Pool) : Type 0 where
@@ -90,11 +88,11 @@ pub record Listed (t : List ℕ) (o : Outcome (List Match)) (store : List ℕ) (
   pub counted : Counted (scene_of t [] []) (log_of store pool.used)
   pub room : pool.used ≤ room
 
-pub data Tried (t : List ℕ) (o : Outcome (List Match)) (store : List ℕ) : Walked → Type 0 where
-  listed : {left : ℕ} {pool : Pool} → Listed t o store left pool → Tried t o store (Done left pool)
-  stopped : {why : Refusal} {left : ℕ} → o ≡ stop (number_of why) left → Tried t o store (Stopped why left)
+pub data Tried (t : List ℕ) (o : Outcome (List Match)) (store : List ℕ) : Result Walked Stopped → Type 0 where
+  listed : {w : Walked} → Listed t o store w.left w.pool → Tried t o store (Ok w)
+  stopped : {s : Stopped} → o ≡ stop (number_of s.why) s.left → Tried t o store (Err s)
 
-abbrev pub stopped_by : Refusal → ℕ → Answer
+abbrev pub stopped_by : Refusal → ℕ → Refused
 stopped_by Refusal.Spent v = Spent v
 stopped_by Refusal.Deep v = TooDeep v
 stopped_by Refusal.Full v = PoolFull v
@@ -109,15 +107,14 @@ pub record TellAsked (t store : List ℕ) (used base : ℕ) : Type 0 where
   pub words : length (answer_words (scene_of t [] []) (trees_in store used)) ≤ 12589058
 
 -- what reading a line asks: accepted input, and the rules of scan or lookup, prepared
-pub record ReadAsked (t line sheet starts places store rules : List ℕ) (count budget base : ℕ) : Type 0 where
+pub record ReadAsked (t line sheet starts places store rules : List ℕ) (budget base : ℕ) : Type 0 where
   pub table : table_fits t ≡ true
   pub lined : LineAccepted line sheet budget base
   pub begins : starts ≡ starts_of t
-  pub placed : Placed t places rules count
-  pub chosen : Chosen t line (take count rules)
+  pub placed : Placed t places rules (length rules)
+  pub chosen : Chosen t line rules
   pub sized : length store ≡ room
-  pub fits : count ≤ length rules
 
 -- the rules tried, as the scene names them
-abbrev pub tried_pairs : List ℕ → List ℕ → ℕ → List (ℕ × ℕ)
-tried_pairs t rules count = map (pair_of t) (take count rules)
+abbrev pub tried_pairs : List ℕ → List ℕ → List (ℕ × ℕ)
+tried_pairs t rules = map (pair_of t) rules

@@ -15,27 +15,33 @@ ghost use Rattle.leads.specs.Leads.{Leads, Led};
 ghost use Rattle.walk.specs.Met.{Prepared};
 ghost use Rattle.answer.specs.Measured.{trees_in};
 ghost use Rattle.trials.specs.Orders.{is_scan, LedFor, LeadAsked};
+ghost use Rattle.trials.specs.declared.Refused.{Refused};
 ghost use Rattle.trials.specs.Told.{says, checked_of, TryAsked, Tried, TellAsked, ReadAsked, stopped_by, listed_call, tried_pairs};
 
 use defs::ruledef;
 use leads;
-use line::LineCheck;
+use line::BadLine;
 use places;
 use pool::Pool;
 use syntax::walker::Walker;
 use useful;
-use walk::{Place, Refusal, Walked};
+use walk::{Place, Refusal, Stopped, Walked};
 
 const MOST_VISITS: u32 = 1_000_000;
 
 // With it the end of the longest line is the greatest number of 32 bits.
 const MOST_BASE: u32 = 4_294_967_175;
 
-// What a call returns. The buffer's start holds the answer if it matched, and is unchanged otherwise.
+// What a call returns, whose buffer's start holds the answer: the readings with the greatest exact count. Number 0.
 #[derive(Clone, Copy)]
-pub enum Answer {
-    // 0: the readings with the greatest exact count.
-    Matched { visits: u32, words: u32 },
+pub struct Matched {
+    pub visits: u32,
+    pub words: u32,
+}
+
+// Why a call has no answer to return. The buffer is unchanged.
+#[derive(Clone, Copy)]
+pub enum Refused {
     // 1
     NoMatch { visits: u32 },
     // 2 to 5, and 19
@@ -54,14 +60,16 @@ pub enum Answer {
     TooLong { visits: u32, words: u32 },
 }
 
-// What the checks find.
-#[derive(Clone, Copy)]
-pub enum Checked {
-    Good,
-    Bad(Answer),
+impl From<BadLine> for Refused {
+    ghost from_gives = { λ bad refused. refused ≡ Refused.BadLine bad.place };
+
+    fn from(bad: BadLine) -> Refused {
+        Refused::BadLine { place: bad.place }
+    }
 }
 
-// Which rules a call tries, and in what order: all top rules, or those that the line's prefixes lead to.
+// Which rules a call tries, and in what order: all top rules, or those that the line's prefixes lead to. An enum and no closure:
+// four steps differ by it, in `trials`, `matcher` and `program`, and each contract would have to carry the closure's.
 #[derive(Clone, Copy)]
 pub enum Order {
     Scan,
@@ -89,41 +97,30 @@ pub fn lead_rules(
 }
 
 // The line's checks, in their order: 3, 4, 5, 19.
-pub fn check(line: &[u8], sheet: &[u8], budget: u32, base: u32) -> Checked
+pub fn check(line: &[u8], sheet: &[u8], budget: u32, base: u32) -> Result<(), Refused>
     ensures answers { result ≡ checked_of line.now sheet.now budget base }
 {
-    let found = line::check_line(line);
-    match found {
-        LineCheck::Good => {}
-        LineCheck::Bad { place } => {
-            return Checked::Bad(Answer::BadLine {
-                place: place as u32,
-            });
-        }
-    }
+    line::check_line(line)?;
     if !extents::check_sheet(sheet, line.len()) {
-        return Checked::Bad(Answer::BadSheet);
+        return Err(Refused::BadSheet);
     }
     if budget == 0 {
-        return Checked::Bad(Answer::BadBudget);
+        return Err(Refused::BadBudget);
     }
     if MOST_VISITS < budget {
-        return Checked::Bad(Answer::BadBudget);
+        return Err(Refused::BadBudget);
     }
     if MOST_BASE < base {
-        return Checked::Bad(Answer::BadBase);
+        return Err(Refused::BadBase);
     }
-    Checked::Good
+    Ok(())
 }
 
 // Whether a call tries all top rules. Those that a lookup found begin as the line does.
 fn scans(order: Order) -> bool
     ensures { result ≡ is_scan order }
 {
-    match order {
-        Order::Scan => true,
-        Order::Lookup => false,
-    }
+    matches!(order, Order::Scan)
 }
 
 // The rule walk for each rule, on the whole line from its start: a top rule has depth 0 and must end at the line's end. A rule
@@ -138,28 +135,29 @@ fn try_rules(
     places: &[u16],
     store: &mut [usize],
     rules: &[u16],
-    count: usize,
     order: Order,
     visits: usize,
-) -> Walked
-    requires try_asked { TryAsked table.now line.now sheet.now starts.now places.now store.old rules.now count visits }
+) -> Result<Walked, Stopped>
+    requires try_asked { TryAsked table.now line.now sheet.now starts.now places.now store.old rules.now visits }
     requires prepared { Prepared table.now line.now useful.now leads.now }
-    ensures { Tried table.now (run (tries (scene_of table.now line.now sheet.now) (tried_pairs table.now rules.now count)) visits 0) store.new result }
+    ensures { Tried table.now (run (tries (scene_of table.now line.now sheet.now) (tried_pairs table.now rules.now)) visits 0) store.new result }
 {
     let walker = Walker::new(line);
     let ahead = leads::look_ahead(line, useful, walker, scans(order));
-    let mut left = visits;
-    let mut has = Pool::new();
-    let mut i = 0;
-    while i < count {
-        let rule = rules[i] as usize;
-        i += 1;
-        let fails = leads::failing_visits(leads[rule], ahead);
-        if 0 < fails {
-            if left < fails {
-                return Walked::Stopped(Refusal::Spent, 0);
+    let mut so_far = Walked {
+        left: visits,
+        pool: Pool::new(),
+    };
+    for rule in rules {
+        let rule = *rule as usize;
+        if let Some(fails) = leads::failing_visits(leads[rule], ahead) {
+            if so_far.left < fails {
+                return Err(Stopped {
+                    why: Refusal::Spent,
+                    left: 0,
+                });
             }
-            left -= fails;
+            so_far.left -= fails;
             continue;
         }
         let at = places::WORDS * rule;
@@ -171,20 +169,22 @@ fn try_rules(
             depth: 0,
             args: 0,
         };
-        let got = walk::match_with_rule(
-            table, line, useful, sheet, starts, leads, store, place, 0, walker, left, has,
-        );
-        match got {
-            Walked::Done(l, q) => {
-                left = l;
-                has = q;
-            }
-            Walked::Stopped(why, l) => {
-                return Walked::Stopped(why, l);
-            }
-        }
+        so_far = walk::match_with_rule(
+            table,
+            line,
+            useful,
+            sheet,
+            starts,
+            leads,
+            store,
+            place,
+            0,
+            walker,
+            so_far.left,
+            so_far.pool,
+        )?;
     }
-    Walked::Done(left, has)
+    Ok(so_far)
 }
 
 // The matches that the walk left, told by their base: measured before anything is written.
@@ -195,36 +195,36 @@ fn tell(
     visits: u32,
     base: usize,
     answer: &mut [u32],
-) -> Answer
+) -> Result<Matched, Refused>
     requires { TellAsked table.now store.now used base }
     ensures { says result answer.new ≡ matched (scene_of table.now [] []) visits (map (moved base) (trees_in store.now used)) answer.old }
 {
     let measure = answer::measure_answer(table, store, used);
     if measure.matches == 0 {
-        return Answer::NoMatch { visits };
+        return Err(Refused::NoMatch { visits });
     }
     let words = measure.words;
     if answer.len() < words {
-        return Answer::TooLong {
+        return Err(Refused::TooLong {
             visits,
             words: words as u32,
-        };
+        });
     }
     answer::write_answer(table, store, used, measure, base, answer);
-    Answer::Matched {
+    Ok(Matched {
         visits,
         words: words as u32,
-    }
+    })
 }
 
 // A walk that stopped, told.
-fn stopped(why: Refusal, visits: u32) -> Answer
+fn stopped(why: Refusal, visits: u32) -> Refused
     ensures { result ≡ stopped_by why visits }
 {
     match why {
-        Refusal::Spent => Answer::Spent { visits },
-        Refusal::Deep => Answer::TooDeep { visits },
-        Refusal::Full => Answer::PoolFull { visits },
+        Refusal::Spent => Refused::Spent { visits },
+        Refusal::Deep => Refused::TooDeep { visits },
+        Refusal::Full => Refused::PoolFull { visits },
     }
 }
 
@@ -239,28 +239,26 @@ pub fn read_line(
     leads: &[u32; ruledef::MOST_RULES],
     places: &[u16],
     rules: &[u16],
-    count: usize,
     order: Order,
     store: &mut [usize],
     answer: &mut [u32],
-) -> Answer
-    requires read_asked { ReadAsked table.now line.now sheet.now starts.now places.now store.old rules.now count budget base }
+) -> Result<Matched, Refused>
+    requires read_asked { ReadAsked table.now line.now sheet.now starts.now places.now store.old rules.now budget base }
     requires leads { Leads table.now leads.now }
-    ensures answers { says result answer.new ≡ listed_call (tried_pairs table.now rules.now count) table.now line.now sheet.now budget base answer.old }
+    ensures answers { says result answer.new ≡ listed_call (tried_pairs table.now rules.now) table.now line.now sheet.now budget base answer.old }
 {
     let visits = budget as usize;
     let mut useful = extents::held_places();
     useful::find_places(line, &mut useful);
-    let walked = try_rules(
-        table, line, &useful, sheet, starts, leads, places, store, rules, count, order, visits,
-    );
-    match walked {
-        Walked::Stopped(why, left) => stopped(why, (visits - left) as u32),
-        Walked::Done(left, pool) => tell(
+    match try_rules(
+        table, line, &useful, sheet, starts, leads, places, store, rules, order, visits,
+    ) {
+        Err(stop) => Err(stopped(stop.why, (visits - stop.left) as u32)),
+        Ok(walked) => tell(
             table,
             store,
-            pool.used,
-            (visits - left) as u32,
+            walked.pool.used,
+            (visits - walked.left) as u32,
             base as usize,
             answer,
         ),
