@@ -1,34 +1,41 @@
--- What a listing's fields say: where a byte stands, low numbers, the words of parts.
-use Rattle.std.specs.Prelude.{◌≡◌, true, ◌&&◌, ℕ, ◌-◌, ◌≤◌, ◌<◌, min, leb, get_or, Option, None, Some}
-use Rattle.std.proofs.Math.Seq.{slice}
+-- What a listing's fields say: what is left of a line, low numbers, the words of parts.
+use Rattle.std.specs.Prelude.{◌≡◌, true, ◌&&◌, List, [], ◌∷◌, ◌++◌, ℕ, ◌-◌, leb, ltb, Option, None, Some}
+use Rattle.std.specs.Borrow.{Bor}
 use Rattle.plain.specs.Choice.{select}
 use Rattle.defs.specs.declared.ruledef.Part.{Part}
 use Rattle.packing.specs.Data.{word_of, is_part_of}
 use Rattle.printing.specs.Listing.{Bytes}
-use Rattle.printing.specs.Reading.{part_in}
+use Rattle.printing.specs.Reading.{pieces, part_in}
 use Rattle.printing.specs.FirstBad.{lacks}
+use Rattle.fields.specs.declared.reading.Fields.{Fields}
 
--- the first place from one on, before an end, that holds a byte; or the end
-pub record Found (text : Bytes) (at end byte r : ℕ) : Type 0 where
-  pub from : at ≤ r
-  pub to : r ≤ end
-  pub before : lacks byte (slice at r text) ≡ true
-  pub holds : r < end → get_or text r 0 ≡ byte
+-- bytes cut at the first that is a byte
+pub record Cut (text : Bytes) (byte : ℕ) (before after : Bytes) : Type 0 where
+  pub lacking : lacks byte before ≡ true
+  pub is : text ≡ before ++ (byte ∷ after)
 
--- a number below 100, else 100
-abbrev pub low_number : Option ℕ → ℕ
-low_number None = 100
-low_number (Some n) = min n 100
+-- the fields that are left: those of the bytes that are left, if any are
+abbrev pub left_of : Option (Bor Bytes) → List Bytes
+left_of None = []
+left_of (Some rest) = pieces 9 rest.now
 
--- a digit's value, else 100
-unfoldable pub digit_of : ℕ → ℕ
-digit_of b = select (leb 48 b && leb b 57) (b - 48) 100
+abbrev pub fields_left : Fields → List Bytes
+fields_left f = left_of f.rest
 
--- the word of a part within the limits, else 0
-abbrev pub word_in : ℕ → Option Part → ℕ
-word_in s None = 0
-word_in s (Some p) = select (is_part_of s p) (word_of p) 0
+-- a number below 100
+abbrev pub low_number : Option ℕ → Option ℕ
+low_number None = None
+low_number (Some n) = select (ltb n 100) (Some n) None
+
+-- a digit's value
+unfoldable pub digit_of : ℕ → Option ℕ
+digit_of b = select (leb 48 b && leb b 57) (Some (b - 48)) None
+
+-- the word of a part within the limits
+abbrev pub word_in : ℕ → Option Part → Option ℕ
+word_in s None = None
+word_in s (Some p) = select (is_part_of s p) (Some (word_of p)) None
 
 -- the word that a field says
-abbrev pub said_word : ℕ → Bytes → ℕ
+abbrev pub said_word : ℕ → Bytes → Option ℕ
 said_word s f = word_in s (part_in f)

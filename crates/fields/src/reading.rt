@@ -1,132 +1,119 @@
 // What the fields of a listing's lines say.
-ghost use Rattle.std.specs.Prelude.{◌≡◌, ◌≤◌, length, Some};
-ghost use Rattle.std.proofs.Math.Seq.{slice};
+ghost use Rattle.std.specs.Prelude.{◌≡◌, ◌≤◌, length, true, Some, MatchOption};
+ghost use Rattle.std.specs.Iterator.{YieldsFirstRef, item_count};
 ghost use Rattle.defs.specs.declared.ruledef.Part.TheVariants.{Exact};
-ghost use Rattle.printing.specs.Reading.{same, number_of, part_in};
-ghost use Rattle.fields.specs.Said.{Found, low_number, digit_of, word_in};
+ghost use Rattle.printing.specs.FirstBad.{lacks};
+ghost use Rattle.printing.specs.Reading.{same, pieces, number_of, part_in};
+ghost use Rattle.fields.specs.Said.{Cut, fields_left, low_number, digit_of, word_in};
 
 use crate::spelling;
 use defs::ruledef;
 
-// A ruleset's number is below 32, so it has two digits at most.
-const MOST_DIGITS: usize = 2;
-
-// What is said of a field that says no such number: more than any number of so many digits.
-const NO_NUMBER: usize = 100;
-
-// What is said of a field that says no part within the limits: no part's word.
-pub const NO_PART: usize = 0;
-
-// The first place from one on, before an end, that holds a byte; or the end.
-pub fn find(text: &[u8], at: usize, end: usize, byte: u8) -> usize
-    requires at_le_end { at ≤ end }
-    requires end_in_bounds { end ≤ length text.now }
-    ensures answers { Found text.now at end byte result }
+// The bytes before the first that is the byte, and those after it; none if it stands nowhere.
+pub fn split_once(text: &[u8], byte: u8) -> Option<(&[u8], &[u8])>
+    ensures answers { MatchOption result (lacks byte text.now ≡ true) (λ p. Cut text.now byte p.0.now p.1.now) }
 {
-    let mut place = at;
-    while place < end {
-        if text[place] == byte {
-            return place;
-        }
-        place = place + 1;
-    }
-    end
+    let place = text.iter().position(|b| *b == byte)?;
+    Some((&text[..place], &text[place + 1..]))
 }
 
-// Whether the bytes from a place to before an end are a word, compared byte for byte.
-pub fn is_word(text: &[u8], at: usize, end: usize, word: &[u8]) -> bool
-    requires at_le_end { at ≤ end }
-    requires end_in_bounds { end ≤ length text.now }
-    ensures answers { result ≡ same (slice at end text.now) word.now }
-{
-    if end - at != word.len() {
-        return false;
-    }
-    let mut i = 0;
-    while i < word.len() {
-        if text[at + i] != word[i] {
-            return false;
-        }
-        i = i + 1;
-    }
-    true
+// The fields of a line that are left to take: those of the bytes that are left, which tabs part.
+#[derive(Drop)]
+pub struct Fields<'a> {
+    rest: Option<&'a [u8]>,
 }
 
-// A digit's value; 100 if the byte is none.
-fn digit(byte: u8) -> usize
+impl<'a> Fields<'a> {
+    pub fn of(line: &'a [u8]) -> Fields<'a>
+        ensures answers { fields_left result ≡ pieces 9 line.now }
+    {
+        Fields { rest: Some(line) }
+    }
+}
+
+impl<'a> Iterator for Fields<'a> {
+    type Item = &'a [u8];
+
+    ghost next_gives = { YieldsFirstRef fields_left };
+
+    ghost remaining = { item_count fields_left };
+
+    fn next(&mut self) -> Option<&'a [u8]> {
+        let rest = self.rest?;
+        let Some((field, after)) = split_once(rest, spelling::TAB) else {
+            self.rest = None;
+            return Some(rest);
+        };
+        self.rest = Some(after);
+        Some(field)
+    }
+}
+
+// Whether a field is a word, compared byte for byte.
+#[tactic(auto, using(crate::proofs::Scans::same_pointwise))]
+pub fn is_word(field: &[u8], word: &[u8]) -> bool
+    ensures answers { result ≡ same field.now word.now }
+{
+    field == word
+}
+
+fn digit(byte: u8) -> Option<usize>
     ensures answers { result ≡ digit_of byte }
 {
-    if byte < spelling::ZERO {
-        return NO_NUMBER;
+    match byte {
+        spelling::ZERO..=spelling::NINE => Some((byte - spelling::ZERO) as usize),
+        _ => None,
     }
-    if byte > spelling::NINE {
-        return NO_NUMBER;
-    }
-    (byte - spelling::ZERO) as usize
 }
 
-// The number below 100 whose decimal this is, without leading zeros; 100 if there is none.
-pub fn number(text: &[u8], at: usize, end: usize) -> usize
-    requires at_le_end { at ≤ end }
-    requires end_in_bounds { end ≤ length text.now }
-    ensures answers { result ≡ low_number (number_of (slice at end text.now)) }
+// The number below 100 whose decimal this is, without leading zeros: a ruleset's number is below 32.
+pub fn number(field: &[u8]) -> Option<usize>
+    ensures answers { result ≡ low_number (number_of field.now) }
 {
-    if end - at == 1 {
-        return digit(text[at]);
+    match field {
+        [one] => digit(*one),
+        [first, second] => {
+            let tens = digit(*first)?;
+            let ones = digit(*second)?;
+            if tens == 0 {
+                return None;
+            }
+            Some(spelling::TEN * tens + ones)
+        }
+        _ => None,
     }
-    if end - at != MOST_DIGITS {
-        return NO_NUMBER;
-    }
-    let tens = digit(text[at]);
-    let ones = digit(text[at + 1]);
-    if tens == 0 {
-        return NO_NUMBER;
-    }
-    if tens >= spelling::TEN {
-        return NO_NUMBER;
-    }
-    if ones >= spelling::TEN {
-        return NO_NUMBER;
-    }
-    spelling::TEN * tens + ones
 }
 
-// The word of an exact part; 0 if the byte is none. A byte is one if it is a part of a table that has no rulesets.
-fn exact(byte: u8) -> usize
+// The word of an exact part. A byte is one if it is a part of a table that has no rulesets.
+fn exact(byte: u8) -> Option<usize>
     ensures answers { result ≡ word_in 0 (Some (Exact byte)) }
 {
     let word = byte as usize;
     if acceptance::is_part(word, 0) {
-        return word;
+        Some(word)
+    } else {
+        None
     }
-    NO_PART
 }
 
-// The word of the part that a field says, among so many rulesets; 0 if it says none.
-pub fn part_word(text: &[u8], at: usize, end: usize, sets: usize) -> usize
-    requires at_le_end { at ≤ end }
-    requires end_in_bounds { end ≤ length text.now }
+// The word of the part that a field says, among so many rulesets.
+pub fn part_word(field: &[u8], sets: usize) -> Option<usize>
     requires sets_bound { sets ≤ 32 }
-    ensures answers { result ≡ word_in sets (part_in (slice at end text.now)) }
+    ensures answers { result ≡ word_in sets (part_in field.now) }
 {
-    if end - at == 1 {
-        return exact(text[at]);
+    if field.len() == 1 {
+        return exact(field[0]);
     }
-    if is_word(text, at, end, &spelling::WS) {
-        return ruledef::WHITESPACE;
+    if is_word(field, &spelling::WS) {
+        return Some(ruledef::WHITESPACE);
     }
-    if is_word(text, at, end, &spelling::EXPR) {
-        return ruledef::EXPRESSION;
+    if is_word(field, &spelling::EXPR) {
+        return Some(ruledef::EXPRESSION);
     }
-    if end - at < spelling::SUB_LENGTH {
-        return NO_PART;
-    }
-    if !is_word(text, at, at + spelling::SUB_LENGTH, &spelling::SUB) {
-        return NO_PART;
-    }
-    let set = number(text, at + spelling::SUB_LENGTH, end);
+    let set = number(field.strip_prefix(&spelling::SUB)?)?;
     if set < sets {
-        return ruledef::NESTED + set;
+        Some(ruledef::NESTED + set)
+    } else {
+        None
     }
-    NO_PART
 }

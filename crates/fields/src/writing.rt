@@ -26,10 +26,8 @@ pub fn put_word(text: &mut [u8], at: usize, word: &[u8]) -> usize
     ensures answers { Laid text.old at word.now text.new result }
 {
     let mut to = at;
-    let mut i = 0;
-    while i < word.len() {
-        to = put(text, to, word[i]);
-        i = i + 1;
+    for byte in word {
+        to = put(text, to, *byte);
     }
     to
 }

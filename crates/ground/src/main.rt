@@ -23,22 +23,16 @@ fn say<W: Write>(out: &mut W, text: &[u8]) -> io::Result<()> {
     out.write_all(text)
 }
 
-fn say_number<W: Write>(out: &mut W, n: usize) -> io::Result<()> {
-    write!(out, "{n}")
-}
-
 // The cut for a byte in a whole line.
 fn cut<W: Write>(out: &mut W, line: &[u8], wanted: u8) -> io::Result<()> {
     say(out, b"cut for ")?;
     say(out, &[wanted])?;
     say(out, b" in ")?;
     say(out, line)?;
-    say(out, b": ")?;
     match Walker::new(line).find_lookahead_char_index(line, wanted) {
-        Some(place) => say_number(out, place)?,
-        None => say(out, b"none")?,
+        Some(place) => writeln!(out, ": {place}"),
+        None => writeln!(out, ": none"),
     }
-    say(out, b"\n")
 }
 
 fn cuts<W: Write>(out: &mut W) -> io::Result<()> {
@@ -55,35 +49,15 @@ fn cuts<W: Write>(out: &mut W) -> io::Result<()> {
     cut(out, b"1 X 2", b'x')
 }
 
-// The first bytes of some.
-fn say_first<W: Write>(out: &mut W, bytes: &[u8], count: usize) -> io::Result<()> {
-    if count <= bytes.len() {
-        say(out, &bytes[..count])?;
-    }
-    Ok(())
-}
-
 fn line_prefix<W: Write>(out: &mut W, line: &[u8]) -> io::Result<()> {
     let prefix = ruledef_map::parse_prefix(line);
-    let bytes = prefix.bytes;
     say(out, b"prefix of ")?;
     say(out, line)?;
     say(out, b": ")?;
-    say_first(out, &bytes, prefix.count)?;
-    say(out, b"\n")
-}
-
-fn say_rule<W: Write>(out: &mut W, rule: u16) -> io::Result<()> {
-    say(out, b" ")?;
-    say_number(out, rule as usize)
-}
-
-// The first rules of some.
-fn say_rules<W: Write>(out: &mut W, rules: &[u16], count: usize) -> io::Result<()> {
-    for rule in rules.iter().take(count) {
-        say_rule(out, *rule)?;
+    for b in prefix.bytes.iter().take(prefix.count) {
+        say(out, &[*b])?;
     }
-    Ok(())
+    say(out, b"\n")
 }
 
 // The rules that a lookup tries on a line.
@@ -93,7 +67,9 @@ fn found<W: Write>(out: &mut W, table: &[u16], line: &[u8]) -> io::Result<()> {
     say(out, b"rules for ")?;
     say(out, line)?;
     say(out, b":")?;
-    say_rules(out, &rules, count)?;
+    for rule in rules.iter().take(count) {
+        write!(out, " {rule}")?;
+    }
     say(out, b"\n")
 }
 
@@ -107,16 +83,10 @@ fn prefixes<W: Write>(out: &mut W) -> io::Result<()> {
 }
 
 fn checked<W: Write>(out: &mut W, line: &[u8]) -> io::Result<()> {
-    say(out, b"line of ")?;
-    say_number(out, line.len())?;
-    say(out, b": ")?;
+    let length = line.len();
     match line::check_line(line) {
-        Ok(()) => say(out, b"good\n"),
-        Err(BadLine { place }) => {
-            say(out, b"3 at ")?;
-            say_number(out, place as usize)?;
-            say(out, b"\n")
-        }
+        Ok(()) => writeln!(out, "line of {length}: good"),
+        Err(BadLine { place }) => writeln!(out, "line of {length}: 3 at {place}"),
     }
 }
 
@@ -138,45 +108,44 @@ fn lines<W: Write>(out: &mut W) -> io::Result<()> {
     checked(out, &[59u8; 130])
 }
 
-fn tabled<W: Write>(out: &mut W, what: &[u8], table: &[u16]) -> io::Result<()> {
-    say(out, what)?;
+fn tabled<W: Write>(out: &mut W, what: &str, table: &[u16]) -> io::Result<()> {
     if acceptance::check_table(table) {
-        say(out, b": good\n")
+        writeln!(out, "{what}: good")
     } else {
-        say(out, b": 2\n")
+        writeln!(out, "{what}: 2")
     }
 }
 
 fn good_tables<W: Write>(out: &mut W) -> io::Result<()> {
-    tabled(out, b"table T", &T)?;
-    tabled(out, b"one empty rule", &[1, 1, 0, 0, 0, 0, 0])?;
-    tabled(out, b"no rule, a spare part", &[1, 0, 1, 0, 97])?;
+    tabled(out, "table T", &T)?;
+    tabled(out, "one empty rule", &[1, 1, 0, 0, 0, 0, 0])?;
+    tabled(out, "no rule, a spare part", &[1, 0, 1, 0, 97])?;
     tabled(
         out,
-        b"shared parts",
+        "shared parts",
         &[1, 2, 4, 0, 0, 0, 2, 0, 1, 2, 97, 98, 99, 100],
     )
 }
 
 fn bad_records<W: Write>(out: &mut W) -> io::Result<()> {
-    tabled(out, b"no word", &[])?;
-    tabled(out, b"one word", &[1])?;
-    tabled(out, b"no ruleset", &[0, 0, 0])?;
-    tabled(out, b"a word too few", &[1, 1, 1, 0, 0, 0, 1])?;
-    tabled(out, b"a word too many", &[1, 0, 0, 0, 0])?;
-    tabled(out, b"flag 2", &[1, 0, 0, 2])?;
-    tabled(out, b"ruleset not below S", &[1, 1, 0, 0, 1, 0, 0])?;
+    tabled(out, "no word", &[])?;
+    tabled(out, "one word", &[1])?;
+    tabled(out, "no ruleset", &[0, 0, 0])?;
+    tabled(out, "a word too few", &[1, 1, 1, 0, 0, 0, 1])?;
+    tabled(out, "a word too many", &[1, 0, 0, 0, 0])?;
+    tabled(out, "flag 2", &[1, 0, 0, 2])?;
+    tabled(out, "ruleset not below S", &[1, 1, 0, 0, 1, 0, 0])?;
     tabled(
         out,
-        b"rulesets that fall",
+        "rulesets that fall",
         &[2, 2, 0, 0, 0, 1, 0, 0, 0, 0, 0],
     )?;
-    tabled(out, b"range past P", &[1, 1, 1, 0, 0, 1, 1, 97])?;
-    tabled(out, b"empty range past P", &[1, 1, 1, 0, 0, 2, 0, 97])?;
-    tabled(out, b"first 65535, count 1", &[1, 1, 1, 0, 0, 65535, 1, 97])?;
+    tabled(out, "range past P", &[1, 1, 1, 0, 0, 1, 1, 97])?;
+    tabled(out, "empty range past P", &[1, 1, 1, 0, 0, 2, 0, 97])?;
+    tabled(out, "first 65535, count 1", &[1, 1, 1, 0, 0, 65535, 1, 97])?;
     tabled(
         out,
-        b"counts past P in sum",
+        "counts past P in sum",
         &[1, 2, 3, 0, 0, 0, 2, 0, 0, 2, 97, 98, 99],
     )
 }
@@ -184,53 +153,52 @@ fn bad_records<W: Write>(out: &mut W) -> io::Result<()> {
 fn parts<W: Write>(out: &mut W) -> io::Result<()> {
     tabled(
         out,
-        b"nine parameters",
+        "nine parameters",
         &[
             1, 1, 9, 0, 0, 0, 9, 257, 257, 257, 257, 257, 257, 257, 257, 257,
         ],
     )?;
     tabled(
         out,
-        b"eight parameters",
+        "eight parameters",
         &[1, 1, 8, 0, 0, 0, 8, 257, 257, 257, 257, 257, 257, 257, 257],
     )?;
-    tabled(out, b"part 13", &[1, 0, 1, 0, 13])?;
-    tabled(out, b"part 32", &[1, 0, 1, 0, 32])?;
-    tabled(out, b"part 59", &[1, 0, 1, 0, 59])?;
-    tabled(out, b"part 127", &[1, 0, 1, 0, 127])?;
-    tabled(out, b"part 258", &[1, 0, 1, 0, 258])?;
-    tabled(out, b"part 511", &[1, 0, 1, 0, 511])?;
-    tabled(out, b"part of no ruleset", &[1, 0, 1, 0, 513])
+    tabled(out, "part 13", &[1, 0, 1, 0, 13])?;
+    tabled(out, "part 32", &[1, 0, 1, 0, 32])?;
+    tabled(out, "part 59", &[1, 0, 1, 0, 59])?;
+    tabled(out, "part 127", &[1, 0, 1, 0, 127])?;
+    tabled(out, "part 258", &[1, 0, 1, 0, 258])?;
+    tabled(out, "part 511", &[1, 0, 1, 0, 511])?;
+    tabled(out, "part of no ruleset", &[1, 0, 1, 0, 513])
 }
 
-fn sheeted<W: Write>(out: &mut W, what: &[u8], sheet: &[u8], n: usize) -> io::Result<()> {
-    say(out, what)?;
+fn sheeted<W: Write>(out: &mut W, what: &str, sheet: &[u8], n: usize) -> io::Result<()> {
     if extents::check_sheet(sheet, n) {
-        say(out, b": good\n")
+        writeln!(out, "{what}: good")
     } else {
-        say(out, b": 4\n")
+        writeln!(out, "{what}: 4")
     }
 }
 
 fn sheets<W: Write>(out: &mut W) -> io::Result<()> {
-    sheeted(out, b"sheet of the empty line", &[255, 0], 0)?;
+    sheeted(out, "sheet of the empty line", &[255, 0], 0)?;
     sheeted(
         out,
-        b"any byte where the start is above the limit",
+        "any byte where the start is above the limit",
         &[0, 1, 77, 255, 255, 255, 0, 1],
         1,
     )?;
-    sheeted(out, b"a byte too few", &[255], 0)?;
-    sheeted(out, b"a byte too many", &[255, 255, 255], 0)?;
+    sheeted(out, "a byte too few", &[255], 0)?;
+    sheeted(out, "a byte too many", &[255, 255, 255], 0)?;
     sheeted(
         out,
-        b"an end past its limit",
+        "an end past its limit",
         &[1, 1, 255, 255, 255, 255, 255, 255],
         1,
     )?;
     sheeted(
         out,
-        b"an end before its start",
+        "an end before its start",
         &[255, 255, 255, 255, 255, 255, 255, 0],
         1,
     )

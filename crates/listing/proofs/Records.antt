@@ -3,13 +3,16 @@
 use mathlib.Core.Path.{◌≡◌, refl, sym, ap, ap₂, ◌∙◌, subst}
 use mathlib.Core.Bool.{Bool, true}
 use mathlib.Core.List.{List, [], ◌∷◌, ◌++◌, map, flat_map, append-nil, append_assoc}
+use Rattle.std.specs.Prelude.{Option, None, Some, MatchOption}
+use Rattle.std.specs.Option.{IsSome}
 use Prim.Native.Nat.{ℕ, ◌+◌, ◌*◌, ◌-◌, ◌≤◌, ◌<◌}
 use native.Mathlib.Omega.{arith}
 use lib.Dec.{leb, ltb}
 use lib.ListN.{length, length-append, length-map}
-use lib.Seq.{slice, sets, length-sets}
+use lib.Seq.{sets, length-sets}
 use borrow.Author.Tests.{ltb-true, leb-true}
 use Rattle.plain.specs.Lists.{count, every}
+use Rattle.plain.proofs.Options.{some_inj}
 use Rattle.plain.proofs.Tests.{and_left, and_right}
 use Rattle.plain.proofs.Every.{every-last}
 use Rattle.plain.proofs.Sets.{sets-append, sets-apart}
@@ -18,81 +21,89 @@ use Rattle.packing.specs.Data.{Rule, Data, word_of, is_part_of, rule_fits, parts
 use Rattle.packing.specs.Packed.{flag_of, words_of, records_of, packed}
 use Rattle.packing.proofs.Limits.{parts_of-append}
 use Rattle.packing.proofs.Packs.{records-append, records-length, words_append, words-length}
-use Rattle.printing.specs.Listing.{Bytes, part_field, rule_line}
-use Rattle.printing.specs.Reading.{number_of}
+use Rattle.printing.specs.Listing.{Bytes, rule_word, decimal, part_field, rule_line}
+use Rattle.printing.specs.Reading.{pieces, number_of}
+use Rattle.printing.specs.FirstBad.{lacks}
 use Rattle.fields.specs.Laid.{Laid}
-use Rattle.fields.specs.Said.{Found, low_number, said_word}
-use Rattle.listing.specs.Judging.{fields_at}
-use Rattle.listing.specs.Packing.{listed_in, Listed, LinesFrom, parts_place, words_for, with_rules}
-use Rattle.listing.proofs.Lines.{listed-fits, listed_small, Next, line-next, rule-tab, rule-number, rule-fields, said-words}
+use Rattle.fields.specs.Said.{Cut, low_number}
+use Rattle.listing.specs.Packing.{listed_in, Listed, LinesAre, Rules, AllSaid, words_said, parts_place, words_for, with_rules}
+use Rattle.listing.proofs.Lines.{listed-fits, listed_small, lines-end, line-is, lines-after, rule-pieces, rule-number, all-said, said-words}
 
--- some rules are laid up to these places, and the lines of the others follow
-pub record RulesLeft (t : Bytes) (s r : ℕ) (table₀ table : List ℕ) (at row part : ℕ) : Type 0 where
+-- the first i rules are laid, records and parts, and the lines of the others follow
+pub record RulesLeft (rs : List Rule) (s r : ℕ) (table₀ table : List ℕ) (rest : Bytes) (i part : ℕ) : Type 0 where
   pub done : List Rule
   pub left : List Rule
-  pub all : done ++ left ≡ (listed_in t).rules
-  pub row_at : row ≡ 3 + s + 3 * length done
+  pub all : done ++ left ≡ rs
+  pub many : i ≡ length done
   pub part_at : part ≡ parts_place s r + parts_of done
   pub words : table ≡ with_rules table₀ s r done
-  pub lines : LinesFrom t at (map rule_line left)
+  pub lines : LinesAre rest (map rule_line left)
 
-pub rules-first : (t : Bytes) (s r : ℕ) (table : List ℕ) (at : ℕ) → LinesFrom t at (map rule_line (listed_in t).rules) → RulesLeft t s r table table at (3 + s) (parts_place s r)
+pub rules-first : (rs : List Rule) (s r : ℕ) (table : List ℕ) (rest : Bytes) → LinesAre rest (map rule_line rs) → RulesLeft rs s r table table rest 0 (parts_place s r)
 unfolding records_of flat_map parts_of
-rules-first t s r table at h =
-    record { done = []; left = (listed_in t).rules; all = refl; row_at = omega arith; part_at = omega arith; words = refl; lines = h }
+rules-first rs s r table rest h =
+    record { done = []; left = rs; all = refl; many = refl; part_at = omega arith; words = refl; lines = h }
 
-module _ (t : Bytes) (s r p : ℕ) (h : Listed t s r p) (table₀ table : List ℕ) (at row part : ℕ) (l : RulesLeft t s r table₀ table at row part) where
+-- the listed data's rules
+pub rules-of : (t : Bytes) (s r p : ℕ) → Listed t s r p → Rules s r p (listed_in t).rules
+rules-of t s r p h = record {
+  few = listed_small t s r p h;
+  many = h.rules;
+  parts = h.parts;
+  each = ap (λ (m : ℕ). every (rule_fits m) (listed_in t).rules) h.tops ∙ (listed-fits t s r p h).each;
+}
+
+module _ (rs : List Rule) (s r p : ℕ) (h : Rules s r p rs) (table₀ table : List ℕ) (rest : Bytes) (i part : ℕ) (l : RulesLeft rs s r table₀ table rest i part) where
   pub rules-long : length table ≡ length table₀
   rules-long =
       ap length l.words ∙ length-sets (sets table₀ (3 + s) (records_of 0 l.done)) (parts_place s r) (flat_map words_of l.done)
       ∙ length-sets table₀ (3 + s) (records_of 0 l.done)
 
   many : length l.done + length l.left ≡ r
-  many = omega (arith, h.rules, ap length l.all, length-append l.done l.left)
+  many = omega (arith, h.many, ap length l.all, length-append l.done l.left)
 
-  pub rules-over : parts_place s r ≤ row → table ≡ with_rules table₀ s r (listed_in t).rules
+  pub rules-over : r ≤ i → table ≡ with_rules table₀ s r rs
   rules-over over = go l.left refl
     where
-      go : (left : List Rule) → left ≡ l.left → table ≡ with_rules table₀ s r (listed_in t).rules
-      go [] e = l.words ∙ ap (with_rules table₀ s r) (sym (append-nil l.done) ∙ ap (λ (rs : List Rule). l.done ++ rs) e ∙ l.all)
-      go (x ∷ xs) e = absurd (omega (arith, over, l.row_at, many, ap length e))
+      go : (left : List Rule) → left ≡ l.left → table ≡ with_rules table₀ s r rs
+      go [] e = l.words ∙ ap (with_rules table₀ s r) (sym (append-nil l.done) ∙ ap (λ (xs : List Rule). l.done ++ xs) e ∙ l.all)
+      go (x ∷ xs) e = absurd (omega (arith, over, l.many, many, ap length e))
 
   -- the next rule
-  record NextRule : Type 0 where
+  pub record NextRule : Type 0 where
     pub it : Rule
-    pub rest : List Rule
-    pub is : l.left ≡ it ∷ rest
+    pub others : List Rule
+    pub is : l.left ≡ it ∷ others
 
-  next-rule : row < parts_place s r → NextRule
+  pub next-rule : i < r → NextRule
   next-rule more = go l.left refl
     where
       go : (left : List Rule) → left ≡ l.left → NextRule
-      go [] e = absurd (omega (arith, more, l.row_at, many, ap length e))
-      go (x ∷ xs) e = record { it = x; rest = xs; is = sym e }
+      go [] e = absurd (omega (arith, more, l.many, many, ap length e))
+      go (x ∷ xs) e = record { it = x; others = xs; is = sym e }
 
-  module _ (more : row < parts_place s r) (end : ℕ) (f : Found t at (length t) 10 end) where
-    n : NextRule
+  module _ (more : i < r) where
+    pub n : NextRule
     n = next-rule more
 
-    parts-before : parts_of l.done + (length n.it.parts + parts_of n.rest) ≡ p
+    parts-before : parts_of l.done + (length n.it.parts + parts_of n.others) ≡ p
     unfolding parts_of
     parts-before =
         omega (arith, h.parts, ap parts_of l.all, parts_of-append l.done l.left, ap parts_of n.is)
 
-    line : Next t at end (rule_line n.it) (map rule_line n.rest)
-    line = line-next t at end _ _ (subst (λ (rs : List Rule). LinesFrom t at (map rule_line rs)) n.is l.lines) f
+    lines-are : LinesAre rest (rule_line n.it ∷ map rule_line n.others)
+    lines-are = subst (λ (xs : List Rule). LinesAre rest (map rule_line xs)) n.is l.lines
 
     fits : rule_fits s n.it ≡ true
     unfolding every
     fits =
         and_left (rule_fits s n.it) _
-        (every-last (rule_fits s) l.done (n.it ∷ n.rest)
-        (ap₂ (λ (m : ℕ) (rs : List Rule). every (rule_fits m) rs) h.tops (ap (λ (rs : List Rule). l.done ++ rs) (sym n.is) ∙ l.all)
-        ∙ (listed-fits t s r p h).each))
+        (every-last (rule_fits s) l.done (n.it ∷ n.others)
+        (ap (every (rule_fits s)) (ap (λ (xs : List Rule). l.done ++ xs) (sym n.is) ∙ l.all) ∙ h.each))
 
     low : n.it.set < 32
     unfolding rule_fits
-    low = omega (arith, ltb-true n.it.set s (and_left (ltb n.it.set s) _ fits), listed_small t s r p h)
+    low = omega (arith, ltb-true n.it.set s (and_left (ltb n.it.set s) _ fits), h.few)
 
     short : length n.it.parts ≤ 64
     unfolding rule_fits
@@ -104,101 +115,129 @@ module _ (t : Bytes) (s r p : ℕ) (h : Listed t s r p) (table₀ table : List �
         and_right (leb (count is_parameter n.it.parts) 8) _
         (and_right (leb (length n.it.parts) 64) _ (and_right (ltb n.it.set s) _ fits))
 
-    pub rule-ended : end < length t
-    rule-ended = line.within
+    pub rule-ended : lacks 10 rest ≡ true → ⊥
+    rule-ended lack = lines-end rest _ _ lines-are lack
 
-    pub rule-parted : (tab : ℕ) → Found t at end 9 tab → tab < end
-    rule-parted tab g = rule-tab t at end tab f.to g s n.it each line.is
+    module _ (line after : Bytes) (c : Cut rest 10 line after) where
+      line-pieces : pieces 9 line ≡ rule_word ∷ decimal n.it.set ∷ map part_field n.it.parts
+      line-pieces = ap (pieces 9) (line-is rest line after _ _ lines-are c) ∙ rule-pieces s n.it each
 
-    module _ (tab : ℕ) (g : Found t at end 9 tab) (to : ℕ) (k : Found t (tab + 1) end 9 to) where
-      fields : fields_at t to end ≡ map part_field n.it.parts
-      fields = rule-fields t at end tab f.to g s n.it each line.is to k
+      -- the fields of the line that are left after its word
+      pub second-is : {T : Type 0} (v : T → Bytes) (o : Option T) (fs₀ fs₁ : List Bytes) → fs₀ ≡ pieces 9 line
+          → MatchOption o ((fs₀ ≡ []) × (fs₁ ≡ [])) (λ x. fs₀ ≡ v x ∷ fs₁) → fs₁ ≡ decimal n.it.set ∷ map part_field n.it.parts
+      second-is v None fs₀ fs₁ e f = absurd (omega (arith, ap length (sym f.0 ∙ e ∙ line-pieces)))
+      second-is v (Some x) fs₀ fs₁ e f = let z : v x ∷ fs₁ ≡ rule_word ∷ decimal n.it.set ∷ map part_field n.it.parts = sym f ∙ e ∙ line-pieces in cc
 
-      pub parts-room : words_for s r p ≤ length table₀ → part + length (fields_at t to end) ≤ length table
-      parts-room room =
-          omega (arith, room, l.part_at, rules-long, parts-before, ap length fields, length-map n.it.parts part_field)
+      pub second-there : (fs₁ fs₂ : List Bytes) → fs₁ ≡ decimal n.it.set ∷ map part_field n.it.parts → (fs₁ ≡ []) × (fs₂ ≡ []) → ⊥
+      second-there fs₁ fs₂ e f = omega (arith, ap length (sym f.0 ∙ e))
 
-      said : map (said_word s) (fields_at t to end) ≡ words_of n.it
-      said = ap (map (said_word s)) fields ∙ said-words s n.it.parts each
+      module _ (fs₁ fs₂ : List Bytes) (x : Bytes) (second : fs₁ ≡ decimal n.it.set ∷ map part_field n.it.parts) (taken : fs₁ ≡ x ∷ fs₂) where
+        both-are : x ∷ fs₂ ≡ decimal n.it.set ∷ map part_field n.it.parts
+        both-are = sym taken ∙ second
 
-      -- after the part words
-      module _ (next : ℕ) (after : List ℕ) (laid : Laid table part (map (said_word s) (fields_at t to end)) after next) where
-        next-is : next ≡ part + length n.it.parts
-        next-is = omega (arith, laid.to, ap length said, length-map n.it.parts word_of)
+        field-is : x ≡ decimal n.it.set
+        field-is = let e = both-are in cc
 
-        pub parts-forward : (parts_place s r ≤ part) × (part ≤ next)
-        parts-forward = (omega (arith, l.part_at), omega (arith, next-is))
+        fields : fs₂ ≡ map part_field n.it.parts
+        fields = let e = both-are in cc
 
-        after-long : length after ≡ length table₀
-        after-long = ap length laid.left ∙ length-sets table part (map (said_word s) (fields_at t to end)) ∙ rules-long
+        numbered : low_number (number_of x) ≡ Some n.it.set
+        numbered = ap (λ (y : Bytes). low_number (number_of y)) field-is ∙ rule-number n.it.set (omega (arith, low))
 
-        module _ (m : ℕ) (number : m ≡ low_number (number_of (slice (tab + 1) to t))) where
-          set_is : m ≡ n.it.set
-          set_is = number ∙ rule-number t at end tab f.to g s n.it each line.is to k (omega (arith, low))
+        pub rule-numbered : (o : Option ℕ) → o ≡ low_number (number_of x) → IsSome o
+        rule-numbered o e = subst IsSome (sym (e ∙ numbered)) refl
 
-          pub row_room : words_for s r p ≤ length table₀ → (row + 3 ≤ length after) × (m < 65536) × (part - parts_place s r < 65536) × (next - part < 65536)
-          row_room room = (
-            omega (arith, room, l.row_at, more, after-long),
-            omega (arith, set_is, low),
-            omega (arith, l.part_at, parts-before, listed_small t s r p h),
-            omega (arith, next-is, short),
-          )
+        pub parts-said : AllSaid s fs₂
+        parts-said = subst (AllSaid s) (sym fields) (all-said s n.it.parts each)
 
-          pub rules-next : RulesLeft t s r table₀ (sets after row (m ∷ (part - parts_place s r) ∷ (next - part) ∷ [])) (end + 1) (row + 3) next
-          unfolding parts_of records_of flat_map
-          rules-next =
-              record {
-                done = l.done ++ (n.it ∷ []);
-                left = n.rest;
-                all = append_assoc l.done (n.it ∷ []) n.rest ∙ ap (λ (rs : List Rule). l.done ++ rs) (sym n.is) ∙ l.all;
-                row_at = omega (arith, l.row_at, length-append l.done (n.it ∷ []));
-                part_at = omega (arith, l.part_at, next-is, one_more, parts_of-append l.done (n.it ∷ []));
-                words = laid-words;
-                lines = line.after;
-              }
-            where
-              one_more : parts_of (n.it ∷ []) ≡ length n.it.parts
-              one_more = omega arith
+        pub parts-room : words_for s r p ≤ length table₀ → part + length fs₂ ≤ length table
+        parts-room room =
+            omega (arith, room, l.part_at, rules-long, parts-before, ap length fields, length-map n.it.parts part_field)
 
-              front : List ℕ
-              front = sets table₀ (3 + s) (records_of 0 l.done)
+        said : words_said s fs₂ ≡ words_of n.it
+        said = ap (words_said s) fields ∙ said-words s n.it.parts each
 
-              triple : List ℕ
-              triple = m ∷ (part - parts_place s r) ∷ (next - part) ∷ []
+        -- after the part words
+        module _ (next : ℕ) (after' : List ℕ) (laid : Laid table part (words_said s fs₂) after' next) where
+          next-is : next ≡ part + length n.it.parts
+          next-is = omega (arith, laid.to, ap length said, length-map n.it.parts word_of)
 
-              -- the part words grow by the rule's own
-              grown : after ≡ sets front (parts_place s r) (flat_map words_of l.done ++ words_of n.it)
-              grown =
-                  laid.left
-                  ∙ ap (sets table part) said
-                  ∙ ap₂ (λ (b : List ℕ) (i : ℕ). sets b i (words_of n.it)) l.words (l.part_at ∙ ap (λ (i : ℕ). parts_place s r + i) (sym (words-length l.done)))
-                  ∙ sym (sets-append front (parts_place s r) (flat_map words_of l.done) (words_of n.it))
+          pub parts-forward : (parts_place s r ≤ part) × (part ≤ next)
+          parts-forward = (omega (arith, l.part_at), omega (arith, next-is))
 
-              -- its record goes before them, at the end of the records
-              recorded : sets front row triple ≡ sets table₀ (3 + s) (records_of 0 (l.done ++ (n.it ∷ [])))
-              recorded = ap₂ (sets front) here this ∙ sym (sets-append table₀ (3 + s) (records_of 0 l.done) (records_of (0 + parts_of l.done) (n.it ∷ []))) ∙ ap (sets table₀ (3 + s)) (sym (records-append 0 l.done (n.it ∷ [])))
-                where
-                  here : row ≡ 3 + s + length (records_of 0 l.done)
-                  here = omega (arith, l.row_at, records-length 0 l.done)
+          after-long : length after' ≡ length table₀
+          after-long = ap length laid.left ∙ length-sets table part (words_said s fs₂) ∙ rules-long
 
-                  second : part - parts_place s r ≡ 0 + parts_of l.done
-                  second = omega (arith, l.part_at)
+          module _ (m : ℕ) (number : Some m ≡ low_number (number_of x)) where
+            set_is : m ≡ n.it.set
+            set_is = some_inj (number ∙ numbered)
 
-                  third : next - part ≡ length n.it.parts
-                  third = omega (arith, next-is)
+            pub row_room : words_for s r p ≤ length table₀ → (3 + s + 3 * i + 3 ≤ length after') × (m < 65536) × (part - parts_place s r < 65536) × (next - part < 65536)
+            row_room room = (
+              omega (arith, room, more, after-long),
+              omega (arith, set_is, low),
+              omega (arith, l.part_at, parts-before, h.few),
+              omega (arith, next-is, short),
+            )
 
-                  this : triple ≡ records_of (0 + parts_of l.done) (n.it ∷ [])
-                  this = ap₂ (λ (i j : ℕ). i ∷ j ∷ (next - part) ∷ []) set_is second ∙ ap (λ (j : ℕ). n.it.set ∷ (0 + parts_of l.done) ∷ j ∷ []) third
+            pub rules-next : RulesLeft rs s r table₀ (sets after' (3 + s + 3 * i) (m ∷ (part - parts_place s r) ∷ (next - part) ∷ [])) after (i + 1) next
+            unfolding parts_of records_of flat_map
+            rules-next =
+                record {
+                  done = l.done ++ (n.it ∷ []);
+                  left = n.others;
+                  all = append_assoc l.done (n.it ∷ []) n.others ∙ ap (λ (xs : List Rule). l.done ++ xs) (sym n.is) ∙ l.all;
+                  many = omega (arith, l.many, length-append l.done (n.it ∷ []));
+                  part_at = omega (arith, l.part_at, next-is, one_more, parts_of-append l.done (n.it ∷ []));
+                  words = laid-words;
+                  lines = lines-after rest line after _ _ lines-are c;
+                }
+              where
+                one_more : parts_of (n.it ∷ []) ≡ length n.it.parts
+                one_more = omega arith
 
-              together : flat_map words_of l.done ++ words_of n.it ≡ flat_map words_of (l.done ++ (n.it ∷ []))
-              together =
-                  ap (λ (w : List ℕ). flat_map words_of l.done ++ w) (sym (append-nil (words_of n.it))) ∙ sym (words_append l.done (n.it ∷ []))
+                place : ℕ
+                place = 3 + s + 3 * i
 
-              laid-words : sets after row triple ≡ with_rules table₀ s r (l.done ++ (n.it ∷ []))
-              laid-words =
-                  ap (λ (b : List ℕ). sets b row triple) grown
-                  ∙ sym (sets-apart front row triple (parts_place s r) (flat_map words_of l.done ++ words_of n.it) (omega (arith, l.row_at, more)))
-                  ∙ ap₂ (λ (b w : List ℕ). sets b (parts_place s r) w) recorded together
+                front : List ℕ
+                front = sets table₀ (3 + s) (records_of 0 l.done)
+
+                triple : List ℕ
+                triple = m ∷ (part - parts_place s r) ∷ (next - part) ∷ []
+
+                -- the part words grow by the rule's own
+                grown : after' ≡ sets front (parts_place s r) (flat_map words_of l.done ++ words_of n.it)
+                grown =
+                    laid.left
+                    ∙ ap (sets table part) said
+                    ∙ ap₂ (λ (b : List ℕ) (i : ℕ). sets b i (words_of n.it)) l.words (l.part_at ∙ ap (λ (i : ℕ). parts_place s r + i) (sym (words-length l.done)))
+                    ∙ sym (sets-append front (parts_place s r) (flat_map words_of l.done) (words_of n.it))
+
+                -- its record goes before them, at the end of the records
+                recorded : sets front place triple ≡ sets table₀ (3 + s) (records_of 0 (l.done ++ (n.it ∷ [])))
+                recorded = ap₂ (sets front) here this ∙ sym (sets-append table₀ (3 + s) (records_of 0 l.done) (records_of (0 + parts_of l.done) (n.it ∷ []))) ∙ ap (sets table₀ (3 + s)) (sym (records-append 0 l.done (n.it ∷ [])))
+                  where
+                    here : place ≡ 3 + s + length (records_of 0 l.done)
+                    here = omega (arith, l.many, records-length 0 l.done)
+
+                    begins : part - parts_place s r ≡ 0 + parts_of l.done
+                    begins = omega (arith, l.part_at)
+
+                    third : next - part ≡ length n.it.parts
+                    third = omega (arith, next-is)
+
+                    this : triple ≡ records_of (0 + parts_of l.done) (n.it ∷ [])
+                    this = ap₂ (λ (i j : ℕ). i ∷ j ∷ (next - part) ∷ []) set_is begins ∙ ap (λ (j : ℕ). n.it.set ∷ (0 + parts_of l.done) ∷ j ∷ []) third
+
+                together : flat_map words_of l.done ++ words_of n.it ≡ flat_map words_of (l.done ++ (n.it ∷ []))
+                together =
+                    ap (λ (w : List ℕ). flat_map words_of l.done ++ w) (sym (append-nil (words_of n.it))) ∙ sym (words_append l.done (n.it ∷ []))
+
+                laid-words : sets after' place triple ≡ with_rules table₀ s r (l.done ++ (n.it ∷ []))
+                laid-words =
+                    ap (λ (b : List ℕ). sets b place triple) grown
+                    ∙ sym (sets-apart front place triple (parts_place s r) (flat_map words_of l.done ++ words_of n.it) (omega (arith, more)))
+                    ∙ ap₂ (λ (b w : List ℕ). sets b (parts_place s r) w) recorded together
 
 -- ---- all of it
 

@@ -1,15 +1,16 @@
 -- Words laid by the writing pass: three in a row, and those of a rule's fields, one by one.
-use mathlib.Core.Path.{◌≡◌, sym, ap, ap₂, ◌∙◌}
-use mathlib.Core.List.{List, [], ◌∷◌, ◌++◌, map}
+use mathlib.Core.Path.{◌≡◌, refl, sym, ap, ap₂, ◌∙◌, subst}
+use mathlib.Core.List.{List, [], ◌∷◌, ◌++◌, flat_map}
+use Rattle.std.specs.Prelude.{Option, Some}
+use Rattle.std.specs.Option.{IsSome}
 use Prim.Native.Nat.{ℕ, suc, ◌+◌, ◌≤◌, ◌<◌}
 use native.Mathlib.Omega.{arith}
-use lib.ListN.{length, set, length-map}
-use lib.Seq.{slice, sets}
+use lib.ListN.{length, set}
+use lib.Seq.{sets}
 use Rattle.printing.specs.Listing.{Bytes}
-use Rattle.fields.specs.Said.{Found, said_word}
+use Rattle.fields.specs.Said.{said_word}
 use Rattle.fields.proofs.Laying.{Laying}
-use Rattle.listing.specs.Judging.{fields_at}
-use Rattle.listing.proofs.Counts.{fields-over, fields-next}
+use Rattle.listing.specs.Packing.{AllSaid, word_or_none, words_said}
 
 pub three-laid : (table : List ℕ) (i a b c : ℕ) → set (set (set table i a) (i + 1) b) (i + 2) c ≡ sets table i (a ∷ b ∷ c ∷ [])
 three-laid table i a b c =
@@ -17,16 +18,29 @@ three-laid table i a b c =
     let two : i + 2 ≡ suc (suc i) = omega arith in
     ap₂ (λ (j k : ℕ). set (set (set table i a) j b) k c) one two
 
-pub said-next : (s : ℕ) (t : Bytes) (at end to w : ℕ) → end ≤ length t → at < end → Found t (at + 1) end 9 to → w ≡ said_word s (slice (at + 1) to t)
-    → map (said_word s) (fields_at t at end) ≡ (w ∷ []) ++ map (said_word s) (fields_at t to end)
-said-next s t at end to w fits h f e =
-    ap (map (said_word s)) (fields-next t at end to fits h f) ∙ ap (λ (v : ℕ). v ∷ map (said_word s) (fields_at t to end)) (sym e)
+module _ (s : ℕ) where
+  pub said-none : {fs : List Bytes} → fs ≡ [] → words_said s fs ≡ []
+  unfolding words_said flat_map
+  said-none e = ap (words_said s) e
 
-pub said-over : (s : ℕ) (t : Bytes) (at end : ℕ) → end ≤ at → map (said_word s) (fields_at t at end) ≡ []
-said-over s t at end h = ap (map (said_word s)) (fields-over t at end h)
+  pub said-next : {fs : List Bytes} (f : Bytes) (gs : List Bytes) (w : ℕ) → fs ≡ f ∷ gs → Some w ≡ said_word s f → words_said s fs ≡ (w ∷ []) ++ words_said s gs
+  unfolding words_said flat_map
+  said-next f gs w e h = ap (words_said s) e ∙ ap (λ (o : Option ℕ). word_or_none o ++ words_said s gs) (sym h)
 
--- there is room for the next word
-pub said-room : (s : ℕ) (fs : List Bytes) (table₀ table rest ys : List ℕ) (from to w : ℕ) → from + length fs ≤ length table₀ → rest ≡ (w ∷ []) ++ ys
-    → Laying table₀ from (map (said_word s) fs) table to rest → to < length table
-said-room s fs table₀ table rest ys from to w room e l =
-    omega (arith, room, ap length e, l.room, l.long, length-map fs (said_word s))
+  pub said-length : (fs : List Bytes) → AllSaid s fs → length (words_said s fs) ≡ length fs
+  unfolding words_said flat_map
+  said-length [] h = refl
+  said-length (f ∷ fs) h = ap (λ (o : Option ℕ). length (word_or_none o ++ words_said s fs)) h.0.1 ∙ omega (arith, said-length fs h.1)
+
+  -- the first field says a part, and the others do
+  pub said-head : {fs gs : List Bytes} {f : Bytes} (o : Option ℕ) → fs ≡ f ∷ gs → o ≡ said_word s f → AllSaid s fs → IsSome o
+  said-head o e a h = let z = subst (AllSaid s) e h in subst IsSome (sym (a ∙ z.0.1)) refl
+
+  pub said-tail : {fs gs : List Bytes} {f : Bytes} → fs ≡ f ∷ gs → AllSaid s fs → AllSaid s gs
+  said-tail e h = (subst (AllSaid s) e h).1
+
+  -- there is room for the next word
+  pub said-room : (fs : List Bytes) (table₀ table rest ys : List ℕ) (from to w : ℕ) → from + length fs ≤ length table₀ → AllSaid s fs → rest ≡ (w ∷ []) ++ ys
+      → Laying table₀ from (words_said s fs) table to rest → to < length table
+  said-room fs table₀ table rest ys from to w room h e l =
+      omega (arith, room, ap length e, l.room, l.long, said-length fs h)

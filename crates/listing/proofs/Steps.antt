@@ -3,33 +3,33 @@ use mathlib.Core.Path.{◌≡◌, refl, sym, ap, ap₂, ◌∙◌, subst}
 use mathlib.Core.Logic.{◌⊎◌, inl, inr}
 use mathlib.Core.Bool.{Bool, true, false, ◌&&◌}
 use mathlib.Core.List.{List, [], ◌∷◌, ◌++◌}
-use Rattle.std.specs.Prelude.{Option, None, Some}
-use Prim.Native.Nat.{ℕ, suc, ◌+◌, ◌≤◌, ◌<◌, min}
+use Rattle.std.specs.Prelude.{Option, None, Some, MatchOption}
+use Rattle.std.specs.Option.{is_some, IsSome}
+use Prim.Native.Nat.{ℕ, suc, ◌+◌, ◌≤◌, ◌<◌}
 use native.Mathlib.Omega.{arith}
 use lib.Dec.{leb, ltb}
-use lib.ListN.{length, drop, length-append, length-drop, drop_of_length-le}
-use lib.Seq.{slice, take-length, drop-cons}
+use lib.ListN.{length, length-append}
 use borrow.Author.Tests.{leb-true, ltb-true, le-leb, lt-ltb}
 use Rattle.plain.specs.Choice.{select}
 use Rattle.plain.specs.Lists.{count, every}
+use Rattle.plain.proofs.Options.{none-ne-some, some-ne-none, some_inj}
 use Rattle.plain.proofs.Tests.{tested, not-both, and_left, and_right, and_both}
 use Rattle.defs.specs.Table.{is_parameter}
 use Rattle.defs.specs.declared.ruledef.Part.{Part}
 use Rattle.packing.specs.Data.{Rule, Data, is_part_of, rule_fits, ascend, parts_of, data_fits, data_from, rule}
 use Rattle.packing.proofs.Limits.{fits_all, all-fits, parts_of-append}
 use Rattle.packing.proofs.Tables.{last_of-more}
-use Rattle.printing.specs.Listing.{lines_of, Bytes, top_field, top_word, nested_word, ruleset_word, rule_word, parted}
+use Rattle.printing.specs.Listing.{lines_of, Bytes, top_word, nested_word, ruleset_word, rule_word}
 use Rattle.printing.specs.Reading.{Read, same, pieces, number_of, parts_in, both, top_in, rule_in, checked, with_top, with_rule, add_top, add_rule, read_fields, read_line, good, bad, read_from, nothing, read}
 use Rattle.printing.specs.FirstBad.{lacks}
-use Rattle.printing.proofs.Pieces.{same_refl, same_true, piece-last, piece-first, pieces-some, parted-pieces}
-use Rattle.printing.proofs.Fields.{top-is}
+use Rattle.printing.proofs.Pieces.{piece-last, pieces-some}
 use Rattle.printing.proofs.Accepts.{checked-is, read_next, line-added, lines-many}
 use Rattle.printing.proofs.Refuses.{stops}
-use Rattle.fields.specs.Said.{Found, low_number}
-use Rattle.fields.proofs.Scans.{same_not, slice_cut}
+use Rattle.fields.specs.Said.{Cut, low_number}
+use Rattle.fields.proofs.Scans.{cut-pieces}
 use Rattle.listing.specs.declared.judging.Sizes.{Sizes}
-use Rattle.listing.specs.Judging.{fields_at, parts_said, Counted, LineSays}
-use Rattle.listing.proofs.Counts.{count_from, count-is, fields-over, fields_open, pieces-at, Said, Unsaid, counted, rule-more, More, more-rule}
+use Rattle.listing.specs.Judging.{parts_said, Counted, LineSays}
+use Rattle.listing.proofs.Counts.{Said, said-parts, parts-said, rule-more, More, more-rule}
 
 -- nothing, or something
 none_or : {A : Type 0} (o : Option A) → ((a : A) → o ≡ Some a → ⊥) → o ≡ None
@@ -97,20 +97,29 @@ module _ (d : Data) (s r p l : ℕ) (c : Counted d s r p l) where
 
   -- ---- a rule
 
-  module _ (f : Bytes) (fs : List Bytes) (n k : ℕ) (low : n ≡ low_number (number_of f)) (many : k ≡ parts_said s (parts_in fs)) where
-    by_count : k ≡ count_from s 0 0 fs
-    by_count = many ∙ sym (count-is s fs)
+  module _ (f : Bytes) (fs : List Bytes) where
+    -- what a rule has that is added
+    pub record Facts (m : ℕ) (ps : List Part) : Type 0 where
+      pub below : m < s
+      pub order : l ≤ m
+      pub more : r < 512
+      pub room : p + length ps ≤ 8192
+      pub short : length ps ≤ 64
+      pub few : count is_parameter ps ≤ 8
+      pub each : every (is_part_of s) ps ≡ true
 
-    pub record Tests : Type 0 where
-      pub below : n < s
-      pub order : l ≤ n
-      pub few : r < 512
-      pub short : k ≤ 64
-      pub room : p + k ≤ 8192
-
-    tests-of : (m : ℕ) (ps : List Part) → number_of f ≡ Some m → parts_in fs ≡ Some ps → (e : Data) → checked (with_rule d (rule m ps)) ≡ Some e → Tests
+    facts-of : (m : ℕ) (ps : List Part) (e : Data) → checked (with_rule d (rule m ps)) ≡ Some e → Facts m ps
     unfolding rule_fits
-    tests-of m ps a b e h = go (counted s fs 0 0 (omega arith))
+    facts-of m ps e h =
+        record {
+          below = under;
+          order = omega (arith, c.last, more.order);
+          more = omega (arith, c.rules, more.few);
+          room = omega (arith, c.parts, more.parts);
+          short = leb-true (length ps) 64 (and_left (leb (length ps) 64) _ (and_right (ltb m s) _ fits));
+          few = leb-true (count is_parameter ps) 8 (and_left (leb (count is_parameter ps) 8) _ rest);
+          each = and_right (leb (count is_parameter ps) 8) _ rest;
+        }
       where
         q : (with_rule d (rule m ps) ≡ e) × (data_fits e ≡ true)
         q = checked-is (with_rule d (rule m ps)) e h
@@ -124,166 +133,148 @@ module _ (d : Data) (s r p l : ℕ) (c : Counted d s r p l) where
         under : m < s
         under = ltb-true m s (and_left (ltb m s) _ fits)
 
-        short : length ps ≤ 64
-        short = leb-true (length ps) 64 (and_left (leb (length ps) 64) _ (and_right (ltb m s) _ fits))
-
         rest : (leb (count is_parameter ps) 8 && every (is_part_of s) ps) ≡ true
         rest = and_right (leb (length ps) 64) _ (and_right (ltb m s) _ fits)
 
-        number : n ≡ m
-        number = low ∙ ap low_number a ∙ omega (arith, under, counted-small.0)
-
-        some_is : (x y : List Part) → Some x ≡ Some y → x ≡ y
-        some_is x y z = cc
-
-        go : Said s 0 0 fs (count_from s 0 0 fs) ⊎ Unsaid s 0 0 fs (count_from s 0 0 fs) → Tests
-        go (inl z) =
-            let size : k ≡ length ps = by_count ∙ z.size ∙ omega (arith, ap length (some_is z.all ps (sym z.is ∙ b))) in
-            record {
-              below = omega (arith, number, under);
-              order = omega (arith, number, c.last, more.order);
-              few = omega (arith, c.rules, more.few);
-              short = omega (arith, size, short);
-              room = omega (arith, size, c.parts, more.parts);
-            }
-        go (inr u) =
-            absurd (u.1 ps b (and_right (leb (count is_parameter ps) 8) _ rest) (omega (arith, short)) (omega (arith, leb-true (count is_parameter ps) 8 (and_left (leb (count is_parameter ps) 8) _ rest))))
-
-    rule-none : (Tests → ⊥) → add_rule d (rule_in (f ∷ fs)) ≡ None
+    rule-none : ((m : ℕ) (ps : List Part) → number_of f ≡ Some m → parts_in fs ≡ Some ps → Facts m ps → ⊥) → add_rule d (rule_in (f ∷ fs)) ≡ None
     rule-none h = go (number_of f) (parts_in fs) refl refl
       where
         go : (o : Option ℕ) (os : Option (List Part)) → number_of f ≡ o → parts_in fs ≡ os → add_rule d (both rule o os) ≡ None
         go None os a b = refl
         go (Some m) None a b = refl
-        go (Some m) (Some ps) a b = none_or (checked (with_rule d (rule m ps))) (λ e z. h (tests-of m ps a b e z))
+        go (Some m) (Some ps) a b = none_or (checked (with_rule d (rule m ps))) (λ e z. h m ps a b (facts-of m ps e z))
 
-    rule-some : Tests → (e : Data) × (add_rule d (rule_in (f ∷ fs)) ≡ Some e) × Counted e s (r + 1) (p + k) n
-    unfolding rule_fits parts_of
-    rule-some t = go (number_of f) refl (counted s fs 0 0 (omega arith)) c.reached
-      where
-        go : (o : Option ℕ) → number_of f ≡ o → Said s 0 0 fs (count_from s 0 0 fs) ⊎ Unsaid s 0 0 fs (count_from s 0 0 fs) → (d ≡ nothing) ⊎ (data_fits d ≡ true)
-            → (e : Data) × (add_rule d (rule_in (f ∷ fs)) ≡ Some e) × Counted e s (r + 1) (p + k) n
-        go None a z w = absurd (omega (arith, low ∙ ap low_number a, t.below, counted-small.0))
-        go (Some m) a (inr u) w = absurd (omega (arith, u.0, by_count, t.short))
-        go (Some m) a (inl z) (inl w) = absurd (omega (arith, t.below, c.sets, ap (λ (x : Data). length x.tops) w))
-        go (Some m) a (inl z) (inr w) = (
-          with_rule d (rule m z.all),
-          ap (add_rule d) (ap₂ (both rule) a z.is) ∙ checked-some _ fits,
-          record {
-            reached = inr fits;
-            sets = c.sets;
-            rules = omega (arith, c.rules, length-append d.rules (rule m z.all ∷ []));
-            parts = omega (arith, c.parts, size, parts_of-append d.rules (rule m z.all ∷ []));
-            last = number ∙ sym (last_of-more 0 d.rules (rule m z.all));
-          },
-        )
+    -- a number below so many rulesets is told as it is
+    low-is : (m : ℕ) → m < s → low_number (Some m) ≡ Some m
+    low-is m h = ap (λ (b : Bool). select b (Some m) None) (lt-ltb m 100 (omega (arith, h, counted-small.0)))
+
+    pub rule-unnumbered : None ≡ low_number (number_of f) → add_rule d (rule_in (f ∷ fs)) ≡ None
+    rule-unnumbered e = rule-none (λ m ps a b t. none-ne-some _ (e ∙ ap low_number a ∙ low-is m t.below))
+
+    pub rule-unsaid : None ≡ parts_said s (parts_in fs) → add_rule d (rule_in (f ∷ fs)) ≡ None
+    rule-unsaid e = rule-none (λ m ps a b t. none-ne-some _ (e ∙ ap (parts_said s) b ∙ parts-said s ps t.short t.few t.each))
+
+    module _ (n : ℕ) (low : Some n ≡ low_number (number_of f)) where
+      number-is : (m : ℕ) → number_of f ≡ Some m → m < s → n ≡ m
+      number-is m a h = some_inj (low ∙ ap low_number a ∙ low-is m h)
+
+      -- a ruleset that is none or went before, or a rule too many
+      pub rule-out : (n < s → l ≤ n → r < 512 → ⊥) → add_rule d (rule_in (f ∷ fs)) ≡ None
+      rule-out h = rule-none (λ m ps a b t. let is = number-is m a t.below in h (omega (arith, is, t.below)) (omega (arith, is, t.order)) t.more)
+
+      module _ (k : ℕ) (many : Some k ≡ parts_said s (parts_in fs)) where
+        pub rule-roomless : 8192 < p + k → add_rule d (rule_in (f ∷ fs)) ≡ None
+        rule-roomless h = rule-none (λ m ps a b t. let z = some_inj (many ∙ ap (parts_said s) b ∙ parts-said s ps t.short t.few t.each) in omega (arith, z, t.room))
+
+        pub rule-some : n < s → l ≤ n → r < 512 → p + k ≤ 8192 → (e : Data) × (add_rule d (rule_in (f ∷ fs)) ≡ Some e) × Counted e s (r + 1) (p + k) n
+        unfolding rule_fits parts_of
+        rule-some below order more room = go (number_of f) low c.reached
           where
-            number : n ≡ m
-            number = let x : n ≡ min m 100 = low ∙ ap low_number a in omega (arith, x, t.below, counted-small.0)
+            z : Said s k (parts_in fs)
+            z = said-parts s k (parts_in fs) many
 
-            size : k ≡ length z.all
-            size = by_count ∙ z.size ∙ omega arith
+            go : (o : Option ℕ) → Some n ≡ low_number o → (d ≡ nothing) ⊎ (data_fits d ≡ true)
+                → (e : Data) × (add_rule d (both rule o (parts_in fs)) ≡ Some e) × Counted e s (r + 1) (p + k) n
+            go None a w = absurd (some-ne-none _ a)
+            go (Some m) a (inl w) = absurd (omega (arith, below, c.sets, ap (λ (x : Data). length x.tops) w))
+            go (Some m) a (inr w) = (
+              with_rule d (rule m z.all),
+              ap (λ (os : Option (List Part)). add_rule d (both rule (Some m) os)) z.is ∙ checked-some _ fits,
+              record {
+                reached = inr fits;
+                sets = c.sets;
+                rules = omega (arith, c.rules, length-append d.rules (rule m z.all ∷ []));
+                parts = omega (arith, c.parts, z.size, parts_of-append d.rules (rule m z.all ∷ []));
+                last = number ∙ sym (last_of-more 0 d.rules (rule m z.all));
+              },
+            )
+              where
+                number : n ≡ m
+                number = by (ltb m 100) a
+                  where
+                    by : (b : Bool) → Some n ≡ select b (Some m) None → n ≡ m
+                    by true j = some_inj j
+                    by false j = absurd (some-ne-none _ j)
 
-            good : rule_fits s (rule m z.all) ≡ true
-            good = and_both _ _ (lt-ltb m s (omega (arith, number, t.below)))
-                (and_both _ _ (le-leb (length z.all) 64 (omega (arith, size, t.short)))
-                (and_both _ _ (le-leb (count is_parameter z.all) 8 (omega (arith, z.few))) z.each))
+                good : rule_fits s (rule m z.all) ≡ true
+                good = and_both _ _ (lt-ltb m s (omega (arith, number, below)))
+                    (and_both _ _ (le-leb (length z.all) 64 z.short) (and_both _ _ (le-leb (count is_parameter z.all) 8 z.few) z.each))
 
-            fits : data_fits (with_rule d (rule m z.all)) ≡ true
-            fits = rule-more d.tops d.rules (rule m z.all) w (omega (arith, c.rules, t.few)) (omega (arith, c.parts, size, t.room)) (omega (arith, c.last, number, t.order))
-                (ap (λ (x : ℕ). rule_fits x (rule m z.all)) (sym c.sets) ∙ good)
+                fits : data_fits (with_rule d (rule m z.all)) ≡ true
+                fits = rule-more d.tops d.rules (rule m z.all) w (omega (arith, c.rules, more)) (omega (arith, c.parts, z.size, room)) (omega (arith, c.last, number, order))
+                    (ap (λ (x : ℕ). rule_fits x (rule m z.all)) (sym c.sets) ∙ good)
 
 -- ---- a ruleset's field
 
-pub top-field : (x : Bytes) → same x top_word ≡ true → top_in (pieces 9 x) ≡ Some true
-unfolding pieces same
-top-field x h = ap (λ (y : Bytes). top_in (pieces 9 y)) (same_true x top_word h)
+pub top-field : (x : Bytes) → same x top_word ≡ true → top_in (x ∷ []) ≡ Some true
+top-field x h = ap (λ (b : Bool). select b (Some true) (select (same x nested_word) (Some false) None)) h
 
-pub nested-field : (x : Bytes) → same x nested_word ≡ true → top_in (pieces 9 x) ≡ Some false
-unfolding pieces same
-nested-field x h = ap (λ (y : Bytes). top_in (pieces 9 y)) (same_true x nested_word h)
+pub nested-field : (x : Bytes) → same x top_word ≡ false → same x nested_word ≡ true → top_in (x ∷ []) ≡ Some false
+nested-field x p q = ap₂ (λ (b e : Bool). select b (Some true) (select e (Some false) None)) p q
 
-pub no_field : (x : Bytes) → same x top_word ≡ false → same x nested_word ≡ false → top_in (pieces 9 x) ≡ None
-unfolding parted
-no_field x p q = none_or (top_in (pieces 9 x)) (λ top h. go top (sym (parted-pieces 9 x) ∙ ap (parted 9) (tail-is (pieces 9 x) top (top-is (pieces 9 x) top h))))
-  where
-    tail-is : (fs : List Bytes) (top : Bool) → ruleset_word ∷ fs ≡ ruleset_word ∷ top_field top ∷ [] → fs ≡ top_field top ∷ []
-    tail-is fs top e = cc
-
-    go : (top : Bool) → x ≡ top_field top → ⊥
-    go true e = not-both (ap (λ (y : Bytes). same y top_word) e ∙ same_refl top_word) p
-    go false e = not-both (ap (λ (y : Bytes). same y nested_word) e ∙ same_refl nested_word) q
+pub no_field : (x : Bytes) → same x top_word ≡ false → same x nested_word ≡ false → top_in (x ∷ []) ≡ None
+no_field x p q = ap₂ (λ (b e : Bool). select b (Some true) (select e (Some false) None)) p q
 
 -- ---- a line's fields
 
-module _ (t : Bytes) (at end tab : ℕ) (fits : end ≤ length t) (f : Found t at end 9 tab) (d : Data) where
-  cut-is : read_line d (slice at end t) ≡ read_fields d (slice at tab t ∷ fields_at t tab end)
+module _ (d : Data) (line w : Bytes) (fs : List Bytes) (is : pieces 9 line ≡ w ∷ fs) where
+  cut-is : read_line d line ≡ read_fields d (w ∷ fs)
   unfolding read_line
-  cut-is = ap (read_fields d) (pieces-at t at end tab fits f)
+  cut-is = ap (read_fields d) is
 
-  pub line-bare : (s r p l : ℕ) → Counted d s r p l → tab ≡ end → read_line d (slice at end t) ≡ None
-  line-bare s r p l c e = cut-is ∙ ap (λ (fs : List Bytes). read_fields d (slice at tab t ∷ fs)) (fields-over t tab end (omega arith)) ∙ go (same (slice at tab t) ruleset_word) (same (slice at tab t) rule_word)
-    where
-      go : (b e : Bool) → select b (add_top d d.rules None) (select e (add_rule d None) None) ≡ None
-      go true e = top-neither d s r p l c None refl
-      go false true = refl
-      go false false = refl
+  pub line-top : same w ruleset_word ≡ true → add_top d d.rules (top_in fs) ≡ read_line d line
+  line-top h = sym (cut-is ∙ ap (λ (b : Bool). select b (add_top d d.rules (top_in fs)) (select (same w rule_word) (add_rule d (rule_in fs)) None)) h)
 
-  open_is : tab < end → read_line d (slice at end t) ≡ read_fields d (slice at tab t ∷ pieces 9 (slice (tab + 1) end t))
-  open_is h = cut-is ∙ ap (λ (fs : List Bytes). read_fields d (slice at tab t ∷ fs)) (fields_open t tab end h)
+  pub line-rule : same w ruleset_word ≡ false → same w rule_word ≡ true → add_rule d (rule_in fs) ≡ read_line d line
+  line-rule u h = sym (cut-is ∙ ap₂ (λ (b e : Bool). select b (add_top d d.rules (top_in fs)) (select e (add_rule d (rule_in fs)) None)) u h)
 
-  pub line-top : tab < end → same (slice at tab t) ruleset_word ≡ true → add_top d d.rules (top_in (pieces 9 (slice (tab + 1) end t))) ≡ read_line d (slice at end t)
-  line-top h w = sym (open_is h ∙ ap (λ (b : Bool). select b (add_top d d.rules (top_in (pieces 9 (slice (tab + 1) end t)))) (select (same (slice at tab t) rule_word) (add_rule d (rule_in (pieces 9 (slice (tab + 1) end t)))) None)) w)
+  pub line_other : same w ruleset_word ≡ false → same w rule_word ≡ false → read_line d line ≡ None
+  line_other u h = cut-is ∙ ap₂ (λ (b e : Bool). select b (add_top d d.rules (top_in fs)) (select e (add_rule d (rule_in fs)) None)) u h
 
-  pub line-rule : tab < end → same (slice at tab t) ruleset_word ≡ false → same (slice at tab t) rule_word ≡ true → add_rule d (rule_in (pieces 9 (slice (tab + 1) end t))) ≡ read_line d (slice at end t)
-  line-rule h v w = sym (open_is h ∙ ap₂ (λ (b e : Bool). select b (add_top d d.rules (top_in (pieces 9 (slice (tab + 1) end t)))) (select e (add_rule d (rule_in (pieces 9 (slice (tab + 1) end t)))) None)) v w)
+-- no field is left after one that is not there
+pub none-left : {T A : Type 0} (P : T → Type 0) (r : Option T) → is_some r ≡ false → MatchOption r A P → A
+none-left P None e h = h
+none-left P (Some x) e h = absurd (not-both refl e)
 
-  pub line_other : tab < end → same (slice at tab t) ruleset_word ≡ false → same (slice at tab t) rule_word ≡ false → read_line d (slice at end t) ≡ None
-  line_other h v w = open_is h ∙ ap₂ (λ (b e : Bool). select b (add_top d d.rules (top_in (pieces 9 (slice (tab + 1) end t)))) (select e (add_rule d (rule_in (pieces 9 (slice (tab + 1) end t)))) None)) v w
+-- what is there, and what it is
+pub is_there : {T A : Type 0} (P : T → Type 0) (r : Option T) → (A → ⊥) → MatchOption r A P → IsSome r
+is_there P None n h = absurd (n h)
+is_there P (Some x) n h = refl
 
-  -- a rule's fields
-  module _ (s r p l n k : ℕ) (c : Counted d s r p l) (low : n ≡ low_number (number_of (slice at tab t))) (many : k ≡ parts_said s (parts_in (fields_at t tab end))) where
-    pub fields-none : (Tests d s r p l c (slice at tab t) (fields_at t tab end) n k low many → ⊥) → add_rule d (rule_in (pieces 9 (slice at end t))) ≡ None
-    fields-none h = ap (λ (fs : List Bytes). add_rule d (rule_in fs)) (pieces-at t at end tab fits f) ∙ rule-none d s r p l c (slice at tab t) (fields_at t tab end) n k low many h
+pub what_is : {T : Type 0} (A : Type 0) (P : T → Type 0) (r : Option T) (x : T) → r ≡ Some x → MatchOption r A P → P x
+what_is {T} A P r x e h = subst (λ (o : Option T). MatchOption o A P) e h
 
-    pub fields-some : Tests d s r p l c (slice at tab t) (fields_at t tab end) n k low many
-        → (e : Data) × (add_rule d (rule_in (pieces 9 (slice at end t))) ≡ Some e) × Counted e s (r + 1) (p + k) n
-    fields-some h =
-        let z = rule-some d s r p l c (slice at tab t) (fields_at t tab end) n k low many h in
-        (z.0, ap (λ (fs : List Bytes). add_rule d (rule_in fs)) (pieces-at t at end tab fits f) ∙ z.1, z.2)
+pub lone_field : {fs gs : List Bytes} {x : Bytes} → fs ≡ x ∷ gs → gs ≡ [] → fs ≡ x ∷ []
+lone_field {fs} {gs} {x} e h = e ∙ ap (λ (l : List Bytes). x ∷ l) h
+
+-- what is said of a rule's fields
+pub rule-as : (d : Data) {fs : List Bytes} {f : Bytes} {gs : List Bytes} → fs ≡ f ∷ gs → add_rule d (rule_in fs) ≡ add_rule d (rule_in (f ∷ gs))
+rule-as d e = ap (λ (l : List Bytes). add_rule d (rule_in l)) e
 
 pub says-as : {o u : Option Data} (r : Option Sizes) → o ≡ u → LineSays o r → LineSays u r
 says-as {o} {u} r e h = subst (λ (x : Option Data). LineSays x r) e h
 
 -- ---- the whole text, from a line's first byte on
 
--- the text from here is read as the whole text is; each line before is a ruleset or a rule
-pub record From (t : Bytes) (at : ℕ) (s r p l : ℕ) : Type 0 where
+-- the bytes that are left are read as the whole text is; each line before is a ruleset or a rule
+pub record From (t rest : Bytes) (s r p l : ℕ) : Type 0 where
   pub so_far : Data
   pub counted : Counted so_far s r p l
-  pub same_read : read_from (s + r) so_far (pieces 10 (drop at t)) ≡ read t
+  pub same_read : read_from (s + r) so_far (pieces 10 rest) ≡ read t
 
-pub from_start : (t : Bytes) → From t 0 0 0 0 0
+pub from_start : (t : Bytes) → From t t 0 0 0 0
 unfolding read parts_of
 from_start t = record { so_far = nothing; counted = record { reached = inl refl; sets = refl; rules = refl; parts = refl; last = refl }; same_read = refl }
 
-pub slice_all : (t : Bytes) (at : ℕ) → slice at (length t) t ≡ drop at t
-slice_all t at = ap (drop at) (take-length t)
-
-pub cut_line : (t : Bytes) (at end : ℕ) → Found t at (length t) 10 end → end < length t → pieces 10 (drop at t) ≡ slice at end t ∷ pieces 10 (drop (end + 1) t)
-cut_line t at end f b =
-    let next : suc end ≡ end + 1 = omega arith in
-    ap (pieces 10)
-    (sym (slice_all t at) ∙ slice_cut t at end (length t) f.from f.to (omega arith)
-    ∙ ap (λ (x : Bytes). slice at end t ++ x) (slice_all t end ∙ drop-cons t end 0 b ∙ ap₂ (λ (c n : ℕ). c ∷ drop n t) (f.holds b) next))
-    ∙ piece-first 10 (slice at end t) (drop (end + 1) t) f.before
+pub cut-shorter : (t : Bytes) (byte : ℕ) (x y : Bytes) → Cut t byte x y → length y < length t
+cut-shorter t byte x y c = omega (arith, ap length c.is, length-append x (byte ∷ y))
 
 -- one line more, one ruleset or rule more
 lines_more : (d e : Data) (line : Bytes) → read_line d line ≡ Some e → length e.tops + length e.rules ≡ suc (length d.tops + length d.rules)
 lines_more d e line h =
     omega (arith, ap length (line-added d e line h).lines, length-append (lines_of d) (line ∷ []), lines-many d, lines-many e)
 
-module _ (t : Bytes) (at s r p l : ℕ) (h : From t at s r p l) where
+module _ (t rest : Bytes) (s r p l : ℕ) (h : From t rest s r p l) where
   pub few-sizes : (s ≤ 32) × (r ≤ 512) × (p ≤ 8192)
   few-sizes = counted-small h.so_far s r p l h.counted
 
@@ -291,42 +282,50 @@ module _ (t : Bytes) (at s r p l : ℕ) (h : From t at s r p l) where
   few-lines = omega (arith, few-sizes)
 
   -- no line end is left: the end is wrong
-  pub from-unended : (end : ℕ) → at < length t → Found t at (length t) 10 end → end ≡ length t → (read t ≡ bad (s + r)) × (s + r ≤ 544)
+  pub from-unended : lacks 10 rest ≡ true → 0 < length rest → (read t ≡ bad (s + r)) × (s + r ≤ 544)
   unfolding read_from same
-  from-unended end low f e = (
+  from-unended lack low = (
     sym h.same_read
-        ∙ ap (read_from (s + r) h.so_far) (piece-last 10 (drop at t) (ap (lacks 10) (sym (slice_all t at) ∙ ap (λ (n : ℕ). slice at n t) (sym e)) ∙ f.before))
-        ∙ ap (λ (b : Bool). select (b && data_fits h.so_far) (good h.so_far) (bad (s + r))) (same_not (drop at t) [] (λ k. omega (arith, k, length-drop at t))),
+        ∙ ap (read_from (s + r) h.so_far) (piece-last 10 rest lack)
+        ∙ ap (λ (b : Bool). select (b && data_fits h.so_far) (good h.so_far) (bad (s + r))) (some_byte rest low),
     few-lines,
   )
+    where
+      some_byte : (x : Bytes) → 0 < length x → same x [] ≡ false
+      some_byte [] k = absurd (omega arith)
+      some_byte (b ∷ x) k = refl
 
-  pub from-bad : (end : ℕ) → Found t at (length t) 10 end → end < length t → read_line h.so_far (slice at end t) ≡ None → (read t ≡ bad (s + r)) × (s + r ≤ 544)
-  from-bad end f b q = (
-    sym h.same_read ∙ ap (read_from (s + r) h.so_far) (cut_line t at end f b)
-        ∙ stops (s + r) h.so_far (slice at end t) (pieces 10 (drop (end + 1) t)) (pieces-some 10 (drop (end + 1) t)) q,
-    few-lines,
-  )
+  module _ (line after : Bytes) (c : Cut rest 10 line after) where
+    pub from-bad : read_line h.so_far line ≡ None → (read t ≡ bad (s + r)) × (s + r ≤ 544)
+    from-bad q = (
+      sym h.same_read ∙ ap (read_from (s + r) h.so_far) (cut-pieces 10 rest line after c)
+          ∙ stops (s + r) h.so_far line (pieces 10 after) (pieces-some 10 after) q,
+      few-lines,
+    )
 
-  pub from_next : (end : ℕ) → Found t at (length t) 10 end → end < length t → (s' r' p' l' : ℕ)
-      → (e : Data) × (read_line h.so_far (slice at end t) ≡ Some e) × Counted e s' r' p' l' → From t (end + 1) s' r' p' l'
-  from_next end f b s' r' p' l' z =
-      let c = h.counted in
-      let d = z.2 in
-      let next : s' + r' ≡ suc (s + r) = omega (arith, lines_more h.so_far z.0 (slice at end t) z.1, c.sets, c.rules, d.sets, d.rules) in
-      record {
-        so_far = z.0;
-        counted = d;
-        same_read =
-            ap (λ (n : ℕ). read_from n z.0 (pieces 10 (drop (end + 1) t))) next
-            ∙ sym (read_next (s + r) h.so_far z.0 (slice at end t) (pieces 10 (drop (end + 1) t)) (pieces-some 10 (drop (end + 1) t)) z.1)
-            ∙ ap (read_from (s + r) h.so_far) (sym (cut_line t at end f b)) ∙ h.same_read;
-      }
+    pub from_next : (s' r' p' l' : ℕ) → (e : Data) × (read_line h.so_far line ≡ Some e) × Counted e s' r' p' l' → From t after s' r' p' l'
+    from_next s' r' p' l' z =
+        let c₀ = h.counted in
+        let d = z.2 in
+        let next : s' + r' ≡ suc (s + r) = omega (arith, lines_more h.so_far z.0 line z.1, c₀.sets, c₀.rules, d.sets, d.rules) in
+        record {
+          so_far = z.0;
+          counted = d;
+          same_read =
+              ap (λ (n : ℕ). read_from n z.0 (pieces 10 after)) next
+              ∙ sym (read_next (s + r) h.so_far z.0 line (pieces 10 after) (pieces-some 10 after) z.1)
+              ∙ ap (read_from (s + r) h.so_far) (sym (cut-pieces 10 rest line after c)) ∙ h.same_read;
+        }
 
-  last-piece : length t ≤ at → read_from (s + r) h.so_far ([] ∷ []) ≡ read t
+  last-piece : length rest ≡ 0 → read_from (s + r) h.so_far ([] ∷ []) ≡ read t
   unfolding pieces
-  last-piece e = ap (λ (x : Bytes). read_from (s + r) h.so_far (pieces 10 x)) (sym (drop_of_length-le t {i = at} e)) ∙ h.same_read
+  last-piece e = go rest e h.same_read
+    where
+      go : (x : Bytes) → length x ≡ 0 → read_from (s + r) h.so_far (pieces 10 x) ≡ read t → read_from (s + r) h.so_far ([] ∷ []) ≡ read t
+      go [] e k = k
+      go (b ∷ x) e k = absurd (omega arith)
 
-  pub from-none : length t ≤ at → s ≡ 0 → (read t ≡ bad (s + r)) × (s + r ≤ 544)
+  pub from-none : length rest ≡ 0 → s ≡ 0 → (read t ≡ bad (s + r)) × (s + r ≤ 544)
   unfolding read_from same
   from-none e z = (sym (last-piece e) ∙ go (tested (data_fits h.so_far)), few-lines)
     where
@@ -334,7 +333,7 @@ module _ (t : Bytes) (at s r p l : ℕ) (h : From t at s r p l) where
       go (inl f) = absurd (omega (arith, z, h.counted.sets, (fits_all h.so_far.tops h.so_far.rules f).sizes))
       go (inr f) = ap (λ (b : Bool). select b (good h.so_far) (bad (s + r))) f
 
-  pub from-good : length t ≤ at → (s ≡ 0 → ⊥) → (e : Data) × (read t ≡ good e) × Counted e s r p l
+  pub from-good : length rest ≡ 0 → (s ≡ 0 → ⊥) → (e : Data) × (read t ≡ good e) × Counted e s r p l
   unfolding read_from same
   from-good e n = (h.so_far, sym (last-piece e) ∙ go h.counted.reached, h.counted)
     where

@@ -14,7 +14,7 @@ use Rattle.plain.proofs.Sets.{sets-start}
 use Rattle.defs.specs.Table.{word_at, rulesets_in, records_in, parts_in, flag_at, ruleset_at, part_of, rule_span, rule_parts, parts_between, is_parameter, table_fits}
 use Rattle.defs.specs.Ruledef.{is_top}
 use Rattle.defs.specs.declared.ruledef.Part.{Part}
-use Rattle.defs.specs.declared.ruledef.Parts.{Parts}
+use Rattle.std.specs.declared.ops.Range.{Range}
 use Rattle.defs.specs.declared.ruledef.Part.TheVariants.{Exact, Whitespace, Expression, Nested}
 use Rattle.defs.proofs.Words.{parts_whole, parts_none, parts_next}
 use Rattle.defs.proofs.Fits.{Sizes, sizes-bound}
@@ -101,7 +101,7 @@ module _ (t : List ℕ) (ok : table_fits t ≡ true) where
   pub set-low : (i n : ℕ) → i < records_in t → n ≡ ruleset_at t i → n < 100
   set-low i n h e = omega (arith, e, sizes.sets, ltb-true (ruleset_at t i) (rulesets_in t) (and_left (ltb (ruleset_at t i) (rulesets_in t)) _ (set-test t i (a.sets i h))))
 
-  pub parts_low : (i : ℕ) (r : Parts) → i < records_in t → r ≡ rule_span t i → every (is_part_of 32) (parts_between t r.at r.end) ≡ true
+  pub parts_low : (i : ℕ) (r : Range ℕ) → i < records_in t → r ≡ rule_span t i → every (is_part_of 32) (parts_between t r.start r.end) ≡ true
   parts_low i r h e =
       ap (every (is_part_of 32)) (parts_whole t i r e)
       ∙ parts_more (rulesets_in t) (rule_parts t i) sizes.sets (parts-each t i a.long (range-test t i (a.ranges i h)).0 a.words)

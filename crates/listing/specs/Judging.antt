@@ -1,24 +1,18 @@
 -- What the judging pass finds, line by line.
-use Rattle.std.specs.Prelude.{◌≡◌, ◌&&◌, List, [], ℕ, ◌+◌, ◌≤◌, leb, ltb, length, Option, None, Some, Result, Ok, Err}
-use Rattle.std.proofs.Math.Seq.{slice}
+use Rattle.std.specs.Prelude.{◌≡◌, ◌&&◌, List, ℕ, ◌≤◌, leb, length, Option, None, Some, Result, Ok, Err}
 use Rattle.plain.specs.Choice.{select}
 use Rattle.plain.specs.Lists.{count, every}
 use Rattle.defs.specs.Table.{is_parameter}
 use Rattle.defs.specs.declared.ruledef.Part.{Part}
 use Rattle.packing.specs.Data.{Data, is_part_of, last_of, parts_of}
-use Rattle.printing.specs.Listing.{Bytes}
-use Rattle.printing.specs.Reading.{Reached, pieces, Read, good, bad}
+use Rattle.printing.specs.Reading.{Reached, Read, good, bad}
 use Rattle.listing.specs.declared.judging.Sizes.{Sizes}
 use Rattle.listing.specs.declared.judging.BadLine.{BadLine}
 
--- the fields after a tab, up to a line's end
-unfoldable pub fields_at : Bytes → ℕ → ℕ → List Bytes
-fields_at text tab end = select (ltb tab end) (pieces 9 (slice (tab + 1) end text)) []
-
--- how many parts fields say of a rule: at most 64 parts and 8 parameters, each within the limits; else 65
-abbrev pub parts_said : ℕ → Option (List Part) → ℕ
-parts_said s None = 65
-parts_said s (Some ps) = select (leb (length ps) 64 && (leb (count is_parameter ps) 8 && every (is_part_of s) ps)) (length ps) 65
+-- how many parts fields say of a rule: at most 64 parts and 8 parameters, each within the limits
+abbrev pub parts_said : ℕ → Option (List Part) → Option ℕ
+parts_said s None = None
+parts_said s (Some ps) = select (leb (length ps) 64 && (leb (count is_parameter ps) 8 && every (is_part_of s) ps)) (Some (length ps)) None
 
 -- ---- the lines so far
 

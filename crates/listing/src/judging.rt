@@ -1,17 +1,14 @@
 // The judging pass: whether a text is a listing of data within document 01's limits, and of how many rulesets, rules and parts;
 // if not, its first bad line. Lines are judged in sequence, by what the lines before them have.
-ghost use Rattle.std.specs.Prelude.{◌≡◌, ◌+◌, ◌≤◌, length};
-ghost use Rattle.std.proofs.Math.Seq.{slice};
+ghost use Rattle.std.specs.Prelude.{◌≡◌, ◌+◌, ◌≤◌};
 ghost use Rattle.packing.specs.Data.{Data};
-ghost use Rattle.printing.specs.Reading.{pieces, parts_in, top_in, rule_in, add_top, add_rule, read_line, read};
-ghost use Rattle.listing.specs.Judging.{fields_at, parts_said, Counted, Countable, LineSays, Judges};
+ghost use Rattle.printing.specs.Reading.{parts_in, top_in, rule_in, add_top, add_rule, read_line, read};
+ghost use Rattle.fields.specs.Said.{fields_left};
+ghost use Rattle.listing.specs.Judging.{parts_said, Counted, Countable, LineSays, Judges};
 
 use defs::ruledef;
-use fields::reading::{NO_PART, find, is_word, number, part_word};
+use fields::reading::{Fields, is_word, number, part_word, split_once};
 use fields::spelling;
-
-// What is counted of a rule's parts that are refused: more than a rule may have.
-const TOO_MANY: usize = ruledef::MOST_PARTS_A_RULE + 1;
 
 // What the lines so far have: S, R, P, and the last rule's ruleset.
 #[derive(Clone, Copy)]
@@ -28,45 +25,35 @@ pub struct BadLine {
     pub line: u32,
 }
 
-// How many parts a rule's fields say, from a tab to the line's end; `TOO_MANY` if there are more than 64, or
-// more than 8 parameters, or some field says no part within the limits.
-fn judge_parts(text: &[u8], at: usize, end: usize, sets: usize) -> usize
-    requires at_le_end { at ≤ end }
-    requires end_in_bounds { end ≤ length text.now }
+// How many parts a rule's fields say; none if there are more than 64, or more than 8 parameters, or some field says no part
+// within the limits.
+fn judge_parts(fields: Fields, sets: usize) -> Option<usize>
     requires sets_bound { sets ≤ 32 }
-    ensures answers { result ≡ parts_said sets (parts_in (fields_at text.now at end)) }
+    ensures answers { result ≡ parts_said sets (parts_in (fields_left fields.entry)) }
 {
-    let mut tab = at;
     let mut count = 0;
     let mut parameters = 0;
-    while tab < end {
-        let from = tab + 1;
-        tab = find(text, from, end, spelling::TAB);
-        let word = part_word(text, from, tab, sets);
-        if word == NO_PART {
-            return TOO_MANY;
+    for field in fields {
+        let word = part_word(field, sets)?;
+        if count == ruledef::MOST_PARTS_A_RULE {
+            return None;
         }
-        count = count + 1;
-        if count > ruledef::MOST_PARTS_A_RULE {
-            return TOO_MANY;
-        }
+        count += 1;
         // Of the words of parts, those of parameters are the greatest.
         if word > ruledef::WHITESPACE {
-            parameters = parameters + 1;
+            parameters += 1;
         }
     }
     if parameters > ruledef::MOST_PARAMETERS {
-        return TOO_MANY;
+        return None;
     }
-    count
+    Some(count)
 }
 
-// A ruleset's line, by the field after its word: what there is with it, or it is bad.
-fn judge_top(text: &[u8], at: usize, end: usize, sizes: Sizes) -> Option<Sizes>
-    requires at_le_end { at ≤ end }
-    requires end_in_bounds { end ≤ length text.now }
+// A ruleset's line, by the fields after its word: what there is with it, or it is bad.
+fn judge_top(mut fields: Fields, sizes: Sizes) -> Option<Sizes>
     requires countable { Countable sizes.sets sizes.rules sizes.parts sizes.last }
-    ensures says { (d : Data) → Counted d sizes.sets sizes.rules sizes.parts sizes.last → LineSays (add_top d d.rules (top_in (pieces 9 (slice at end text.now)))) result }
+    ensures says { (d : Data) → Counted d sizes.sets sizes.rules sizes.parts sizes.last → LineSays (add_top d d.rules (top_in (fields_left fields.entry))) result }
 {
     if sizes.rules > 0 {
         return None;
@@ -74,43 +61,31 @@ fn judge_top(text: &[u8], at: usize, end: usize, sizes: Sizes) -> Option<Sizes>
     if sizes.sets == ruledef::MOST_RULESETS {
         return None;
     }
-    let next = Sizes {
-        sets: sizes.sets + 1,
-        rules: 0,
-        parts: 0,
-        last: 0,
-    };
-    if is_word(text, at, end, &spelling::TOP) {
-        return Some(next);
+    let kind = fields.next()?;
+    if fields.next().is_some() {
+        return None;
     }
-    if is_word(text, at, end, &spelling::NESTED) {
-        return Some(next);
+    if is_word(kind, &spelling::TOP) || is_word(kind, &spelling::NESTED) {
+        return Some(Sizes {
+            sets: sizes.sets + 1,
+            rules: 0,
+            parts: 0,
+            last: 0,
+        });
     }
     None
 }
 
 // A rule's line, by the fields after its word.
-fn judge_rule(text: &[u8], at: usize, end: usize, sizes: Sizes) -> Option<Sizes>
-    requires at_le_end { at ≤ end }
-    requires end_in_bounds { end ≤ length text.now }
+fn judge_rule(mut fields: Fields, sizes: Sizes) -> Option<Sizes>
     requires countable { Countable sizes.sets sizes.rules sizes.parts sizes.last }
-    ensures says { (d : Data) → Counted d sizes.sets sizes.rules sizes.parts sizes.last → LineSays (add_rule d (rule_in (pieces 9 (slice at end text.now)))) result }
+    ensures says { (d : Data) → Counted d sizes.sets sizes.rules sizes.parts sizes.last → LineSays (add_rule d (rule_in (fields_left fields.entry))) result }
 {
-    let tab = find(text, at, end, spelling::TAB);
-    let set = number(text, at, tab);
-    if set >= sizes.sets {
+    let set = number(fields.next()?)?;
+    if set >= sizes.sets || set < sizes.last || sizes.rules == ruledef::MOST_RULES {
         return None;
     }
-    if set < sizes.last {
-        return None;
-    }
-    if sizes.rules == ruledef::MOST_RULES {
-        return None;
-    }
-    let count = judge_parts(text, tab, end, sizes.sets);
-    if count > ruledef::MOST_PARTS_A_RULE {
-        return None;
-    }
+    let count = judge_parts(fields, sizes.sets)?;
     if sizes.parts + count > ruledef::MOST_PARTS {
         return None;
     }
@@ -123,21 +98,17 @@ fn judge_rule(text: &[u8], at: usize, end: usize, sizes: Sizes) -> Option<Sizes>
 }
 
 // One more line, by its first field: a ruleset's or a rule's.
-fn judge_line(text: &[u8], at: usize, end: usize, sizes: Sizes) -> Option<Sizes>
-    requires at_le_end { at ≤ end }
-    requires end_in_bounds { end ≤ length text.now }
+fn judge_line(line: &[u8], sizes: Sizes) -> Option<Sizes>
     requires countable { Countable sizes.sets sizes.rules sizes.parts sizes.last }
-    ensures says { (d : Data) → Counted d sizes.sets sizes.rules sizes.parts sizes.last → LineSays (read_line d (slice at end text.now)) result }
+    ensures says { (d : Data) → Counted d sizes.sets sizes.rules sizes.parts sizes.last → LineSays (read_line d line.now) result }
 {
-    let tab = find(text, at, end, spelling::TAB);
-    if tab == end {
-        return None;
+    let mut fields = Fields::of(line);
+    let word = fields.next()?;
+    if is_word(word, &spelling::RULESET) {
+        return judge_top(fields, sizes);
     }
-    if is_word(text, at, tab, &spelling::RULESET) {
-        return judge_top(text, tab + 1, end, sizes);
-    }
-    if is_word(text, at, tab, &spelling::RULE) {
-        return judge_rule(text, tab + 1, end, sizes);
+    if is_word(word, &spelling::RULE) {
+        return judge_rule(fields, sizes);
     }
     None
 }
@@ -162,17 +133,16 @@ pub fn judge(text: &[u8]) -> Result<Sizes, BadLine>
         parts: 0,
         last: 0,
     };
-    let mut at = 0;
-    while at < text.len() {
-        let end = find(text, at, text.len(), spelling::END);
-        if end == text.len() {
-            return Err(next_line(sizes));
-        }
-        let Some(next) = judge_line(text, at, end, sizes) else {
+    let mut rest = text;
+    while let Some((line, after)) = split_once(rest, spelling::END) {
+        let Some(next) = judge_line(line, sizes) else {
             return Err(next_line(sizes));
         };
         sizes = next;
-        at = end + 1;
+        rest = after;
+    }
+    if !rest.is_empty() {
+        return Err(next_line(sizes));
     }
     if sizes.sets == 0 {
         return Err(next_line(sizes));

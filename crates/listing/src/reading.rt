@@ -1,22 +1,21 @@
 // A listing read into table words: one pass judges the text, and one writes the packed words of the data whose listing it is. It
 // refuses a text that is no listing of data within document 01's limits (15, with its first bad line), and words that have no
 // room (16).
-ghost use Rattle.std.specs.Prelude.{◌≡◌, [], ◌∷◌, map, ◌+◌, ◌≤◌, ◌<◌, length};
-ghost use Rattle.std.proofs.Math.Seq.{slice};
+ghost use Rattle.std.specs.Prelude.{◌≡◌, List, [], ◌∷◌, map, ◌+◌, ◌≤◌, ◌<◌, length};
 ghost use Rattle.std.proofs.lemmas.List.Edits.{sets};
+ghost use Rattle.packing.specs.Data.{Rule};
 ghost use Rattle.packing.specs.Packed.{flag_of, packed};
 ghost use Rattle.printing.specs.Listing.{top_word, rule_line};
 ghost use Rattle.printing.specs.Reading.{same};
-ghost use Rattle.fields.specs.Said.{said_word};
+ghost use Rattle.fields.specs.Said.{fields_left};
 ghost use Rattle.fields.specs.Laid.{Laid};
-ghost use Rattle.listing.specs.Judging.{fields_at};
-ghost use Rattle.listing.specs.Packing.{Listed, listed_in, LinesFrom, words_for, with_rules};
+ghost use Rattle.listing.specs.Packing.{Listed, listed_in, LinesAre, Rules, RulesListed, AllSaid, words_said, words_for, with_rules};
 ghost use Rattle.listing.specs.declared.reading.ReadError.TheVariants.{BadText};
 ghost use Rattle.listing.specs.Calls.{ReadCall, read_says};
 
 use crate::judging::{BadLine, Sizes, judge};
 use defs::ruledef;
-use fields::reading::{find, is_word, number, part_word};
+use fields::reading::{Fields, is_word, number, part_word, split_once};
 use fields::spelling;
 
 // Why a text is not read. `read_says` gives each case's number and fields.
@@ -37,15 +36,10 @@ impl From<BadLine> for ReadError {
 }
 
 // A ruleset's flag, by its field.
-fn flag(text: &[u8], at: usize, end: usize) -> u16
-    requires at_le_end { at ≤ end }
-    requires end_in_bounds { end ≤ length text.now }
-    ensures answers { result ≡ flag_of (same (slice at end text.now) top_word) }
+fn flag(field: &[u8]) -> u16
+    ensures answers { result ≡ flag_of (same field.now top_word) }
 {
-    if is_word(text, at, end, &spelling::TOP) {
-        return 0;
-    }
-    1
+    if is_word(field, &spelling::TOP) { 0 } else { 1 }
 }
 
 // Three words, one after another: the table's head, or a rule's record.
@@ -61,77 +55,60 @@ fn lay_three(table: &mut [u16], at: usize, first: usize, second: usize, third: u
     table[at + 2] = third as u16;
 }
 
-// The flags of a judged text's rulesets; gives where its rules' lines begin.
-fn lay_tops(text: &[u8], sizes: Sizes, table: &mut [u16]) -> usize
+// The flags of a judged text's rulesets; gives its rules' lines.
+fn lay_tops<'a>(text: &'a [u8], sizes: Sizes, table: &mut [u16]) -> &'a [u8]
     requires listed { Listed text.now sizes.sets sizes.rules sizes.parts }
     requires parts_in_bounds { words_for sizes.sets sizes.rules sizes.parts ≤ length table.old }
     ensures flags { table.new ≡ sets table.old 3 (map flag_of (listed_in text.now).tops) }
-    ensures rules { LinesFrom text.now result (map rule_line (listed_in text.now).rules) }
+    ensures rules { LinesAre result.now (map rule_line (listed_in text.now).rules) }
 {
-    let mut at = 0;
-    let mut set = 0;
-    while set < sizes.sets {
-        let end = find(text, at, text.len(), spelling::END);
-        let field = find(text, at, end, spelling::TAB) + 1;
-        table[ruledef::HEAD + set] = flag(text, field, end);
-        set = set + 1;
-        at = end + 1;
+    let mut rest = text;
+    for set in 0..sizes.sets {
+        let (line, after) = split_once(rest, spelling::END).unwrap();
+        let (_, field) = split_once(line, spelling::TAB).unwrap();
+        table[ruledef::HEAD + set] = flag(field);
+        rest = after;
     }
-    at
+    rest
 }
 
-// The words of a rule's parts, by its fields from a tab to the line's end; gives the place after them.
-fn lay_parts(
-    text: &[u8],
-    tab: usize,
-    end: usize,
-    sets: usize,
-    table: &mut [u16],
-    from: usize,
-) -> usize
-    requires tab_le_end { tab ≤ end }
-    requires end_in_bounds { end ≤ length text.now }
+// The words of a rule's parts, by its fields; gives the place after them.
+fn lay_parts(fields: Fields, sets: usize, table: &mut [u16], from: usize) -> usize
     requires sets_bound { sets ≤ 32 }
-    requires end_in_bounds_2 { from + length (fields_at text.now tab end) ≤ length table.old }
-    ensures laid { Laid table.old from (map (said_word sets) (fields_at text.now tab end)) table.new result }
+    requires said { AllSaid sets (fields_left fields) }
+    requires end_in_bounds { from + length (fields_left fields) ≤ length table.old }
+    ensures laid { Laid table.old from (words_said sets (fields_left fields.entry)) table.new result }
 {
-    let mut at = tab;
     let mut to = from;
-    while at < end {
-        let field = at + 1;
-        at = find(text, field, end, spelling::TAB);
-        table[to] = part_word(text, field, at, sets) as u16;
-        to = to + 1;
+    for field in fields {
+        let word = part_word(field, sets).unwrap();
+        table[to] = word as u16;
+        to += 1;
     }
     to
 }
 
-// The records of a judged text's rules, and the words of their parts, in rule order and none to spare.
-fn lay_rules(text: &[u8], from: usize, sizes: Sizes, table: &mut [u16])
-    requires listed { Listed text.now sizes.sets sizes.rules sizes.parts }
+// The records of the rules that lines list, and the words of their parts, in rule order and none to spare.
+fn lay_rules(lines: &[u8], sizes: Sizes, table: &mut [u16])
+    requires listed { RulesListed lines.now sizes.sets sizes.rules sizes.parts }
     requires parts_in_bounds { words_for sizes.sets sizes.rules sizes.parts ≤ length table.old }
-    requires lines_from { LinesFrom text.now from (map rule_line (listed_in text.now).rules) }
-    ensures laid { table.new ≡ with_rules table.old sizes.sets sizes.rules (listed_in text.now).rules }
+    ensures laid { (rules : List Rule) → Rules sizes.sets sizes.rules sizes.parts rules → LinesAre lines.now (map rule_line rules) → table.new ≡ with_rules table.old sizes.sets sizes.rules rules }
 {
-    let first = ruledef::HEAD + sizes.sets + ruledef::FIELDS * sizes.rules;
-    let mut at = from;
-    let mut row = ruledef::HEAD + sizes.sets;
+    let records = ruledef::HEAD + sizes.sets;
+    let first = records + ruledef::FIELDS * sizes.rules;
+    let mut rest = lines;
     let mut part = first;
-    while row < first {
-        let end = find(text, at, text.len(), spelling::END);
-        let field = find(text, at, end, spelling::TAB) + 1;
-        at = end + 1;
-        let tab = find(text, field, end, spelling::TAB);
-        let next = lay_parts(text, tab, end, sizes.sets, table, part);
-        lay_three(
-            table,
-            row,
-            number(text, field, tab),
-            part - first,
-            next - part,
-        );
-        row = row + ruledef::FIELDS;
+    for rule in 0..sizes.rules {
+        let (line, after) = split_once(rest, spelling::END).unwrap();
+        let mut fields = Fields::of(line);
+        // The word `rule`.
+        fields.next();
+        let set = number(fields.next().unwrap()).unwrap();
+        let next = lay_parts(fields, sizes.sets, table, part);
+        let record = records + ruledef::FIELDS * rule;
+        lay_three(table, record, set, part - first, next - part);
         part = next;
+        rest = after;
     }
 }
 
@@ -142,8 +119,8 @@ fn lay_table(text: &[u8], sizes: Sizes, table: &mut [u16])
     ensures laid { table.new ≡ sets table.old 0 (packed (listed_in text.now)) }
 {
     lay_three(table, 0, sizes.sets, sizes.rules, sizes.parts);
-    let from = lay_tops(text, sizes, table);
-    lay_rules(text, from, sizes, table);
+    let rules = lay_tops(text, sizes, table);
+    lay_rules(rules, sizes, table);
 }
 
 // The text's rulesets and rules as a packed table, at the room's start, and how many words it takes there.

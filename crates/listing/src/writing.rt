@@ -13,6 +13,7 @@ ghost use Rattle.listing.specs.Writing.{parts_text, rule_text, top_text, rules_t
 use defs::ruledef;
 use fields::spelling;
 use fields::writing::{put, put_number, put_part, put_word};
+use std::ops::Range;
 
 // Why a table is not written. `write_says` gives each case's number and fields.
 #[derive(Clone, Copy)]
@@ -23,19 +24,16 @@ pub enum WriteError {
     NoRoom,
 }
 
-// The fields of the parts whose words stand from one place to before another.
-fn put_parts(table: &[u16], from: usize, end: usize, text: &mut [u8], at: usize) -> usize
-    requires end_in_bounds { end ≤ length table.now }
-    requires end_value { every (is_part_of 32) (parts_between table.now from end) ≡ true }
-    requires ready { Ready at (parts_text (parts_between table.now from end)) }
-    ensures laid { Laid text.old at (parts_text (parts_between table.now from end)) text.new result }
+// The fields of the parts whose words stand at some places.
+fn put_parts(table: &[u16], parts: Range<usize>, text: &mut [u8], at: usize) -> usize
+    requires end_in_bounds { parts.end ≤ length table.now }
+    requires end_value { every (is_part_of 32) (parts_between table.now parts.start parts.end) ≡ true }
+    requires ready { Ready at (parts_text (parts_between table.now parts.start parts.end)) }
+    ensures laid { Laid text.old at (parts_text (parts_between table.now parts.start parts.end)) text.new result }
 {
-    let mut place = from;
     let mut to = at;
-    while place < end {
-        let part = ruledef::part_at(table, place);
-        place = place + 1;
-        to = put_part(text, to, part);
+    for place in parts.start..parts.end {
+        to = put_part(text, to, ruledef::part_at(table, place));
     }
     to
 }
@@ -51,7 +49,7 @@ fn put_rule(table: &[u16], rule: u16, text: &mut [u8], at: usize) -> usize
     let number = put(text, tab, spelling::TAB);
     let fields = put_number(text, number, ruledef::ruleset_of(table, rule));
     let parts = ruledef::parts_of(table, rule);
-    let end = put_parts(table, parts.at, parts.end, text, fields);
+    let end = put_parts(table, parts, text, fields);
     put(text, end, spelling::END)
 }
 
@@ -61,12 +59,10 @@ fn put_rules(table: &[u16], text: &mut [u8], at: usize) -> usize
     requires ready { Ready at (rules_text table.now 0 (records_in table.now)) }
     ensures laid { Laid text.old at (rules_text table.now 0 (records_in table.now)) text.new result }
 {
-    let rules = ruledef::rule_count(table);
+    let rules = ruledef::rule_count(table) as u16;
     let mut to = at;
-    let mut rule: u16 = 0;
-    while (rule as usize) < rules {
+    for rule in 0..rules {
         to = put_rule(table, rule, text, to);
-        rule = rule + 1;
     }
     to
 }
@@ -99,12 +95,9 @@ fn put_tops(table: &[u16], text: &mut [u8]) -> usize
     requires ready { Ready 0 (tops_text table.now 0 (rulesets_in table.now)) }
     ensures laid { Laid text.old 0 (tops_text table.now 0 (rulesets_in table.now)) text.new result }
 {
-    let sets = ruledef::ruleset_count(table);
     let mut to = 0;
-    let mut set = 0;
-    while set < sets {
+    for set in 0..ruledef::ruleset_count(table) {
         to = put_top(text, to, table[ruledef::HEAD + set] == 0);
-        set = set + 1;
     }
     to
 }

@@ -6,15 +6,14 @@ use mathlib.Core.List.{List, [], ◌∷◌, ◌++◌, append-nil}
 use Rattle.std.specs.Prelude.{Option, None, Some}
 use Rattle.plain.proofs.Options.{none-ne-some}
 use Prim.Native.Nat.{ℕ, zero, suc, ◌+◌, ◌≤◌, ◌<◌, min}
-use native.Mathlib.Numerals.{add-one}
 use native.Mathlib.Omega.{arith}
-use lib.ListN.{length, get_or, take, set, length-take, length-append, drop_of_length-le}
-use lib.Seq.{slice, drop-cons, ext_get_or, get_or_at, get_or-take}
-use borrow.Author.Tests.{eq-eqb, ne_eqb}
+use Rattle.std.specs.List.{list_any}
+use lib.ListN.{length, get_or, take, set, length-take, length-append}
+use lib.Seq.{ext_get_or, get_or_at, get_or-take}
 use Rattle.plain.specs.Lists.{range, listed}
 use Rattle.plain.proofs.Lists.{listed-length, listed_at, listed-set}
 use Rattle.plain.proofs.Tests.{and_left}
-use Rattle.syntax.specs.Walker.{held, moved_to, useful}
+use Rattle.syntax.specs.Walker.{held, moved_to}
 use Rattle.syntax.specs.declared.walker.Walker.{Walker}
 use Rattle.syntax.proofs.Useful.{InLine, held-is-within}
 use Rattle.defs.specs.declared.ruledef.Part.{Part}
@@ -68,33 +67,11 @@ moved-held line w there end is = ap (held line) is ∙ same
         let c : min (min end (min (min w.limit n) n)) (min (min (min w.limit n) n) n) ≡ min end (min w.limit n) = omega arith in
         λ i. record { cursor = c i; limit = l i }
 
-module _ (line : List ℕ) (l d e p q : ℕ) (here : p ≡ useful line (walker_at line l d)) (there : q ≡ useful line (walker_at line l e)) where
-  pub place_same : p ≡ q → same_end line l d e ≡ true
-  place_same h = eq-eqb _ _ (sym here ∙ h ∙ there)
-
-  pub place_other : (p ≡ q → ⊥) → same_end line l d e ≡ false
-  place_other n = ne_eqb _ _ (λ h. n (here ∙ h ∙ sym there))
-
--- what the ends from here on tell, all tell
-module _ (same : ℕ → ℕ → Bool) (xs : List ℕ) (n i y : ℕ) (b : Bool) (from : any_same same (slice i n xs) y ≡ b) where
-  module _ (below : i < n) (inside : i < length xs) where
-    next : (same (get_or xs i 0) y || any_same same (slice (i + 1) n xs) y) ≡ b
-    unfolding any_same
-    next =
-        ap (λ (k : ℕ). same (get_or xs i 0) y || any_same same (slice k n xs) y) (add-one i)
-        ∙ ap (λ (x : ℕ). same x y || any_same same (slice (suc i) n xs) y) (sym (get_or-take n xs i 0 below))
-        ∙ ap (λ (l : List ℕ). any_same same l y) (sym (drop-cons (take n xs) i 0 (omega (arith, length-take n xs))))
-        ∙ from
-
-    pub any_here : same (get_or xs i 0) y ≡ true → true ≡ b
-    any_here t = ap (λ (u : Bool). u || any_same same (slice (i + 1) n xs) y) (sym t) ∙ next
-
-    pub any-later : same (get_or xs i 0) y ≡ false → any_same same (slice (i + 1) n xs) y ≡ b
-    any-later f = ap (λ (u : Bool). u || any_same same (slice (i + 1) n xs) y) (sym f) ∙ next
-
-  pub any_none : n ≤ i → false ≡ b
-  unfolding any_same
-  any_none h = ap (λ (l : List ℕ). any_same same l y) (sym (drop_of_length-le (take n xs) {i = i} (omega (arith, length-take n xs)))) ∙ from
+-- std's word for it
+any-listed : (same : ℕ → ℕ → Bool) (xs : List ℕ) (y : ℕ) → list_any (λ x. same x y) xs ≡ any_same same xs y
+unfolding any_same
+any-listed same [] y = refl
+any-listed same (x ∷ xs) y = ap (λ (b : Bool). same x y || b) (any-listed same xs y)
 
 -- ---- one candidate more
 
@@ -116,12 +93,13 @@ module _ (same : ℕ → ℕ → Bool) (es : List ℕ) (x : Ends) (is : x ≡ he
     unfolding added
     add_none h = is ∙ ap (λ (y : Option ℕ). held_ends (added same es y)) (sym h)
 
-    module _ (e : ℕ) (b : Bool) (ends_at : o ≡ Some e) (told : b ≡ any_same same (take x.count x.places) e) where
+    module _ (e : ℕ) (b : Bool) (ends_at : o ≡ Some e) (told : b ≡ list_any (λ d. same d e) (take x.count x.places)) where
       judged : (u : Bool) → b ≡ u → added same es o ≡ es ++ unless u e []
       unfolding added
       judged u h =
           ap (λ (y : Option ℕ). added same es y) ends_at
-          ∙ ap (λ (v : Bool). es ++ unless v e []) (ap (λ (l : List ℕ). any_same same l e) (sym listed-ends) ∙ sym told ∙ h)
+          ∙ ap (λ (v : Bool). es ++ unless v e [])
+          (ap (λ (l : List ℕ). any_same same l e) (sym listed-ends) ∙ sym (any-listed same (take x.count x.places) e) ∙ sym told ∙ h)
 
       -- a duplicate is left out
       pub add_same : b ≡ true → x ≡ held_ends (added same es o)

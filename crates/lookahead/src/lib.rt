@@ -6,12 +6,13 @@
 #![tactic(auto)]
 
 ghost use Rattle.std.specs.Prelude.{◌≡◌, true, List, [], ℕ, ◌≤◌, ◌<◌, length, take, Some};
+ghost use Rattle.std.specs.List.{list_any};
 ghost use Rattle.syntax.specs.Walker.{useful};
 ghost use Rattle.useful.specs.Useful.{Lent};
 ghost use Rattle.defs.specs.Table.{parts_between};
 ghost use Rattle.extents.specs.Sheet.{sheet_fits, ReadAt, free_end};
 ghost use Rattle.readings.specs.Scene.{walker_at, scene_of};
-ghost use Rattle.readings.specs.Walk.{lookahead, cut_for, free_under, any_same, same_end, ends, limits};
+ghost use Rattle.readings.specs.Walk.{lookahead, cut_for, free_under, same_end, ends, limits};
 ghost use Rattle.lookahead.specs.Held.{held_ends, held_limits, added};
 
 use defs::ruledef;
@@ -53,13 +54,11 @@ pub fn find_lookahead_char(table: &[u16], at: usize, end: usize) -> Option<u8>
     ensures answers { result ≡ lookahead (parts_between table.now at end) }
 {
     let stop = within(table, end);
-    let mut here = at;
-    while here < stop {
+    for here in at..stop {
         match ruledef::part_within(table, here) {
             Part::Exact(b) => return Some(b),
-            Part::Whitespace => here += 1,
-            Part::Expression => return None,
-            Part::Nested(_) => return None,
+            Part::Whitespace => {}
+            Part::Expression | Part::Nested(_) => return None,
         }
     }
     None
@@ -69,10 +68,8 @@ pub fn find_lookahead_char(table: &[u16], at: usize, end: usize) -> Option<u8>
 pub fn find_cut(table: &[u16], line: &[u8], walker: Walker, at: usize, end: usize) -> Option<usize>
     ensures answers { result ≡ cut_for (scene_of table.now line.now []) walker.limit walker.cursor (parts_between table.now at end) }
 {
-    match find_lookahead_char(table, at, end) {
-        Some(wanted) => walker.find_lookahead_char_index(line, wanted),
-        None => None,
-    }
+    let wanted = find_lookahead_char(table, at, end)?;
+    walker.find_lookahead_char_index(line, wanted)
 }
 
 // The useful place of an end under the walker's limit, by the useful places of the line.
@@ -88,17 +85,12 @@ fn useful_place(line: &[u8], places: &[u8; PLACES], walker: Walker, end: usize) 
 fn is_duplicate(line: &[u8], useful: &[u8; PLACES], walker: Walker, ends: Ends, end: usize) -> bool
     requires lent { Lent line.now useful.now }
     requires count_bound { ends.count ≤ 3 }
-    ensures { result ≡ any_same (same_end line.now walker.limit) (take ends.count ends.places) end }
+    ensures { result ≡ list_any (λ d. same_end line.now walker.limit d end) (take ends.count ends.places) }
 {
     let place = useful_place(line, useful, walker, end);
-    let mut i: usize = 0;
-    while i < ends.count {
-        if useful_place(line, useful, walker, ends.places[i]) == place {
-            return true;
-        }
-        i += 1;
-    }
-    false
+    ends.places[..ends.count]
+        .iter()
+        .any(|e| useful_place(line, useful, walker, *e) == place)
 }
 
 // One candidate more: it stays unless one before it has the same useful place. Those that did not stay need no look, since
@@ -114,9 +106,8 @@ fn add_end(
     requires count_bound { ends.count < 3 }
     ensures { (es : List ℕ) → ends ≡ held_ends es → result ≡ held_ends (added (same_end line.now walker.limit) es extent) }
 {
-    let end = match extent {
-        Some(end) => end,
-        None => return ends,
+    let Some(end) = extent else {
+        return ends;
     };
     if is_duplicate(line, useful, walker, ends, end) {
         return ends;
@@ -135,10 +126,7 @@ fn free_to_cut(sheet: &[u8], n: usize, c: usize, cut: Option<usize>) -> Option<u
     requires { (m : ℕ) → cut ≡ Some m → ReadAt sheet.now n c m }
     ensures { result ≡ free_under (free_end sheet.now n) c cut }
 {
-    match cut {
-        Some(limit) => extents::free(sheet, n, c, limit),
-        None => None,
-    }
+    extents::free(sheet, n, c, cut?)
 }
 
 // An expression's candidate ends: free(c, l), free(c, cut) if there is a cut, greedy(c, l), in that order. Of ends with

@@ -53,11 +53,11 @@ module _ (line : List ℕ) (short : length line ≤ 120) where
             (get_or-set_same places (at - 1) v 0 (omega (arith, f.sized)) ∙ is)
         by c l m (no d) = get_or-set_other places (at - 1) c v 0 d ∙ f.each c (omega (arith, d)) m
 
-    pub filled-white : is_whitespace (byte_at line (at - 1)) ≡ true → Filled line (set places (at - 1) (get_or places at 0)) (at - 1)
+    pub filled-white : is_whitespace (byte_at line (at - 1)) ≡ true → Filled line (set places (at - 1) (get_or places (at - 1 + 1) 0)) (at - 1)
     filled-white white =
         let after : at ≡ at - 1 + 1 = omega arith in
         stored _
-        (f.each at (omega arith) (omega (arith, f.below)) ∙ ap (λ (c : ℕ). useful_from line c (length line)) after
+        (ap (λ (c : ℕ). get_or places c 0) (sym after) ∙ f.each at (omega arith) (omega (arith, f.below)) ∙ ap (λ (c : ℕ). useful_from line c (length line)) after
         ∙ useful-later line (length line) (omega arith) (at - 1) (omega (arith, f.below)) white)
 
     pub filled-solid : is_whitespace (byte_at line (at - 1)) ≡ false → Filled line places (at - 1)

@@ -1,6 +1,7 @@
 // The useful places of a line, worked out once for a call, and the moves of `src/syntax/walker.rs` that go by them.
 // The Rust walks over the whitespace at each move. Nothing is refused: what is lent is a line of at most 120 bytes, its own
-// places, and a walker that stands within it.
+// places, and a walker that stands within it. The three come side by side and in no struct: document 01 has the line lent beside
+// a walker that is a value.
 #![tactic(auto)]
 
 ghost use Rattle.std.specs.Prelude.{◌≡◌, ◌≤◌, length};
@@ -21,13 +22,9 @@ pub fn find_places(line: &[u8], places: &mut [u8; PLACES])
     requires held_places { HeldPlaces places.old }
     ensures answers { places.new ≡ useful_places line.now }
 {
-    let mut at = line.len();
-    while 0 < at {
-        let after = at;
-        at -= 1;
-        let b = line[at];
-        if line::is_whitespace(b) {
-            places[at] = places[after];
+    for at in (0..line.len()).rev() {
+        if line::is_whitespace(line[at]) {
+            places[at] = places[at + 1];
         }
     }
 }

@@ -21,7 +21,6 @@ use Rattle.pool.specs.declared.Record.TheVariants.{Kept, Completed}
 use Rattle.pool.specs.Log.{decode, Digits, MatchFits, depth_in, count_in}
 use Rattle.pool.specs.Meaning.{none, Entry, argued, tree_at, entry_of, gathered, Stored, entries}
 use Rattle.pool.proofs.Gathers.{entries-length, entry_here, ends_at, nothing-here, something-here}
-use Rattle.walk.specs.declared.Inner.{Inner}
 use Rattle.walk.specs.Met.{made, fresh_of, InnerOf, new_match, no_match}
 
 module _ (store : List ℕ) (used : ℕ) (stored : Stored store used) where

@@ -21,6 +21,20 @@ use useful;
 // A ruleset of no more rules is tried without a look ahead, which costs half of what walking a failing rule does.
 const FEW: usize = 1;
 
+// What a call lends to its walks: table, line, the line's useful places, its sheet, where the table's rulesets begin, and the
+// leads of its rules. That places and leads are those of line and table is no ghost field: `Leads` goes by cases, which a fact in
+// a struct may not.
+#[derive(Clone, Copy)]
+pub struct Lent<'a> {
+    pub table: &'a [u16],
+    pub line: &'a [u8],
+    pub useful: &'a [u8; useful::PLACES],
+    pub sheet: &'a [u8],
+    pub starts: &'a [u16],
+    pub leads: &'a [u32; ruledef::MOST_RULES],
+    ghost bytes: { (i : ℕ) → get_or line.now i 0 < 256 },
+}
+
 // Where a walk stands: a rule, by its ruleset and its number there; the places of its part words that are still to come; how
 // deep it is nested; its last argument so far, as the pool counts arguments.
 #[derive(Clone, Copy)]
@@ -82,8 +96,7 @@ pub struct Inner {
 
 // The end of a pattern, whose match has this exact count. A top rule short of the line's end completes no match.
 fn finish(
-    table: &[u16],
-    line: &[u8],
+    lent: &Lent,
     store: &mut [usize],
     place: Place,
     exact: usize,
@@ -98,13 +111,13 @@ fn finish(
     requires args_le_used { place.args ≤ pool.used }
     requires cursor_bound { walker.cursor < 128 }
     requires cursor_le_limit { walker.cursor ≤ walker.limit }
-    requires limit_value { place.depth ≡ 0 → walker.limit ≡ length line.now }
+    requires limit_value { place.depth ≡ 0 → walker.limit ≡ length lent.now.line.now }
     requires exact_bound { exact < 128 }
-    requires ended { Ended table.now store.old pool.used place exact }
-    ensures { Left table.now (ran (finish_plan (length line.now) place.depth walker.cursor) left pool) place (log_of store.old pool.used) store.new result }
+    requires ended { Ended lent.now.table.now store.old pool.used place exact }
+    ensures { Left lent.now.table.now (ran (finish_plan (length lent.now.line.now) place.depth walker.cursor) left pool) place (log_of store.old pool.used) store.new result }
 {
     let depth = place.depth;
-    if depth == 0 && !walker.is_over(line) {
+    if depth == 0 && !walker.is_over(lent.line) {
         return Ok(Walked { left, pool });
     }
     let end = walker.get_cursor_index();
@@ -160,12 +173,7 @@ fn inner_match(store: &[usize], used: usize, first: usize, m: usize, depth: usiz
 // The rule walk, from a place in a pattern on, with the exact count of its match so far.
 #[cycle(match_with_expr_match_with_nested_ruledef_match_with_rule)]
 pub fn match_with_rule(
-    table: &[u16],
-    line: &[u8],
-    useful: &[u8; useful::PLACES],
-    sheet: &[u8],
-    starts: &[u16],
-    leads: &[u32; ruledef::MOST_RULES],
+    lent: &Lent,
     store: &mut [usize],
     place: Place,
     exact: usize,
@@ -173,10 +181,10 @@ pub fn match_with_rule(
     visits: usize,
     pool: Pool,
 ) -> Result<Walked, Stopped>
-    requires ready { Ready table.now line.now sheet.now starts.now store.old place walker pool }
-    requires stands { Stands table.now store.old pool.used place exact (to_come table.now place) walker.cursor }
-    requires prepared { Prepared table.now line.now useful.now leads.now }
-    ensures { Left table.now (ran (rule_plan table.now line.now sheet.now place.depth place.at place.end walker.limit walker.cursor) visits pool) place (log_of store.old pool.used) store.new result }
+    requires ready { Ready lent.now.table.now lent.now.line.now lent.now.sheet.now lent.now.starts.now store.old place walker pool }
+    requires stands { Stands lent.now.table.now store.old pool.used place exact (to_come lent.now.table.now place) walker.cursor }
+    requires prepared { Prepared lent.now.table.now lent.now.line.now lent.now.useful.now lent.now.leads.now }
+    ensures { Left lent.now.table.now (ran (rule_plan lent.now.table.now lent.now.line.now lent.now.sheet.now place.depth place.at place.end walker.limit walker.cursor) visits pool) place (log_of store.old pool.used) store.new result }
 {
     let mut left = visits;
     let mut at = place.at;
@@ -194,13 +202,14 @@ pub fn match_with_rule(
         }
         left -= 1;
         if at == end {
-            return finish(table, line, store, place, exact + passed, here, left, pool);
+            return finish(lent, store, place, exact + passed, here, left, pool);
         }
-        let part = ruledef::part_within(table, at);
+        let part = ruledef::part_within(lent.table, at);
         at += 1;
         match part {
             Part::Exact(b) => {
-                let Step::Past(next) = useful::maybe_expect_char(line, useful, here, b) else {
+                let Step::Past(next) = useful::maybe_expect_char(lent.line, lent.useful, here, b)
+                else {
                     return Ok(Walked { left, pool });
                 };
                 here = next;
@@ -208,37 +217,20 @@ pub fn match_with_rule(
             }
             Part::Whitespace => {
                 // It consumes nothing: the walker comes back where it stood.
-                let Step::Past(same) = useful::maybe_expect_whitespace(line, useful, here) else {
+                let Step::Past(same) = useful::maybe_expect_whitespace(lent.line, lent.useful, here)
+                else {
                     return Ok(Walked { left, pool });
                 };
                 here = same;
             }
             Part::Expression => {
                 let rest = place.past(at);
-                return match_with_expr(
-                    table,
-                    line,
-                    useful,
-                    sheet,
-                    starts,
-                    leads,
-                    store,
-                    rest,
-                    exact + passed,
-                    here,
-                    left,
-                    pool,
-                );
+                return match_with_expr(lent, store, rest, exact + passed, here, left, pool);
             }
             Part::Nested(set) => {
                 let rest = place.past(at);
                 return match_with_nested_ruledef(
-                    table,
-                    line,
-                    useful,
-                    sheet,
-                    starts,
-                    leads,
+                    lent,
                     store,
                     set,
                     rest,
@@ -255,12 +247,7 @@ pub fn match_with_rule(
 // The expression step, over the parts after the parameter: each candidate end becomes an argument, and the walk goes on.
 #[cycle(match_with_expr_match_with_nested_ruledef_match_with_rule)]
 fn match_with_expr(
-    table: &[u16],
-    line: &[u8],
-    useful: &[u8; useful::PLACES],
-    sheet: &[u8],
-    starts: &[u16],
-    leads: &[u32; ruledef::MOST_RULES],
+    lent: &Lent,
     store: &mut [usize],
     place: Place,
     exact: usize,
@@ -268,13 +255,21 @@ fn match_with_expr(
     visits: usize,
     pool: Pool,
 ) -> Result<Walked, Stopped>
-    requires ready { Ready table.now line.now sheet.now starts.now store.old place walker pool }
-    requires stands { Stands table.now store.old pool.used place exact (from_expr table.now place) walker.cursor }
-    requires prepared { Prepared table.now line.now useful.now leads.now }
-    ensures { Left table.now (ran (expr_plan table.now line.now sheet.now place.depth place.at place.end walker.limit walker.cursor) visits pool) place (log_of store.old pool.used) store.new result }
+    requires ready { Ready lent.now.table.now lent.now.line.now lent.now.sheet.now lent.now.starts.now store.old place walker pool }
+    requires stands { Stands lent.now.table.now store.old pool.used place exact (from_expr lent.now.table.now place) walker.cursor }
+    requires prepared { Prepared lent.now.table.now lent.now.line.now lent.now.useful.now lent.now.leads.now }
+    ensures { Left lent.now.table.now (ran (expr_plan lent.now.table.now lent.now.line.now lent.now.sheet.now place.depth place.at place.end walker.limit walker.cursor) visits pool) place (log_of store.old pool.used) store.new result }
 {
-    let begins = useful::next_useful_index(line, useful, walker);
-    let ends = lookahead::find_ends(table, line, useful, sheet, walker, place.at, place.end);
+    let begins = useful::next_useful_index(lent.line, lent.useful, walker);
+    let ends = lookahead::find_ends(
+        lent.table,
+        lent.line,
+        lent.useful,
+        lent.sheet,
+        walker,
+        place.at,
+        place.end,
+    );
     let mut walked = Walked { left: visits, pool };
     for &end in &ends.places[..ends.count] {
         let start = least(end, begins);
@@ -290,21 +285,8 @@ fn match_with_expr(
             });
         };
         let next = place.after(more.used);
-        let moved = walker.set_cursor_index(line, end);
-        walked = match_with_rule(
-            table,
-            line,
-            useful,
-            sheet,
-            starts,
-            leads,
-            store,
-            next,
-            exact,
-            moved,
-            walked.left,
-            more,
-        )?;
+        let moved = walker.set_cursor_index(lent.line, end);
+        walked = match_with_rule(lent, store, next, exact, moved, walked.left, more)?;
     }
     Ok(walked)
 }
@@ -313,12 +295,7 @@ fn match_with_expr(
 // there is one; then each inner match, equal ones once, becomes an argument, and the walk goes on under the limit.
 #[cycle(match_with_expr_match_with_nested_ruledef_match_with_rule)]
 fn match_with_nested_ruledef(
-    table: &[u16],
-    line: &[u8],
-    useful: &[u8; useful::PLACES],
-    sheet: &[u8],
-    starts: &[u16],
-    leads: &[u32; ruledef::MOST_RULES],
+    lent: &Lent,
     store: &mut [usize],
     set: usize,
     place: Place,
@@ -327,11 +304,11 @@ fn match_with_nested_ruledef(
     visits: usize,
     pool: Pool,
 ) -> Result<Walked, Stopped>
-    requires ready { Ready table.now line.now sheet.now starts.now store.old place walker pool }
-    requires stands { Stands table.now store.old pool.used place exact (from_nest table.now set place) walker.cursor }
+    requires ready { Ready lent.now.table.now lent.now.line.now lent.now.sheet.now lent.now.starts.now store.old place walker pool }
+    requires stands { Stands lent.now.table.now store.old pool.used place exact (from_nest lent.now.table.now set place) walker.cursor }
     requires set_bound { set < 32 }
-    requires prepared { Prepared table.now line.now useful.now leads.now }
-    ensures { Left table.now (ran (nested_plan table.now line.now sheet.now place.depth set place.at place.end walker.limit walker.cursor) visits pool) place (log_of store.old pool.used) store.new result }
+    requires prepared { Prepared lent.now.table.now lent.now.line.now lent.now.useful.now lent.now.leads.now }
+    ensures { Left lent.now.table.now (ran (nested_plan lent.now.table.now lent.now.line.now lent.now.sheet.now place.depth set place.at place.end walker.limit walker.cursor) visits pool) place (log_of store.old pool.used) store.new result }
 {
     let depth = place.depth;
     if Pool::DEPTH <= depth {
@@ -340,19 +317,19 @@ fn match_with_nested_ruledef(
             left: visits,
         });
     }
-    let begins = useful::next_useful_index(line, useful, walker);
-    let limits = lookahead::find_limits(table, line, walker, place.at, place.end);
-    let begin = starts[set] as usize;
-    let count = starts[set + 1] as usize - begin;
+    let begins = useful::next_useful_index(lent.line, lent.useful, walker);
+    let limits = lookahead::find_limits(lent.table, lent.line, walker, place.at, place.end);
+    let begin = lent.starts[set] as usize;
+    let count = lent.starts[set + 1] as usize - begin;
     let first = pool.used;
     let mut walked = Walked { left: visits, pool };
     for &limit in &limits.places[..limits.count] {
-        let inner = walker.set_cursor_limit(line, limit);
-        let ahead = leads::look_ahead(line, useful, inner, FEW < count);
+        let inner = walker.set_cursor_limit(lent.line, limit);
+        let ahead = leads::look_ahead(lent.line, lent.useful, inner, FEW < count);
         for rule in 0..count {
             let number = begin + rule;
             // A rule that fails in its leading exact parts takes no walk to count.
-            if let Some(fails) = leads::failing_visits(leads[number], ahead) {
+            if let Some(fails) = leads::failing_visits(lent.leads[number], ahead) {
                 if walked.left < fails {
                     return Err(Stopped {
                         why: Refusal::Spent,
@@ -362,7 +339,7 @@ fn match_with_nested_ruledef(
                 walked.left -= fails;
                 continue;
             }
-            let parts = ruledef::parts_of(table, number as u16);
+            let parts = ruledef::parts_of(lent.table, number as u16);
             let start = Place {
                 set,
                 rule,
@@ -371,20 +348,7 @@ fn match_with_nested_ruledef(
                 depth: depth + 1,
                 args: 0,
             };
-            walked = match_with_rule(
-                table,
-                line,
-                useful,
-                sheet,
-                starts,
-                leads,
-                store,
-                start,
-                0,
-                inner,
-                walked.left,
-                walked.pool,
-            )?;
+            walked = match_with_rule(lent, store, start, 0, inner, walked.left, walked.pool)?;
         }
     }
     for m in first..walked.pool.used {
@@ -405,21 +369,8 @@ fn match_with_nested_ruledef(
             });
         };
         let next = place.after(more.used);
-        let moved = walker.set_cursor_index(line, found.end);
-        walked = match_with_rule(
-            table,
-            line,
-            useful,
-            sheet,
-            starts,
-            leads,
-            store,
-            next,
-            sum,
-            moved,
-            walked.left,
-            more,
-        )?;
+        let moved = walker.set_cursor_index(lent.line, found.end);
+        walked = match_with_rule(lent, store, next, sum, moved, walked.left, more)?;
     }
     Ok(walked)
 }

@@ -53,12 +53,12 @@ pub match_with_nested_ruledef-returns-then-depth-ge-DEPTH : goal.match_with_nest
 match_with_nested_ruledef-returns-then-depth-ge-DEPTH t c =
     nested-deep c.requires.ready _ _ c.if-depth-ge-DEPTH.true _
 
-pub match_with_nested_ruledef-bounds-starts-set : goal.match_with_nested_ruledef-bounds-starts-set
-match_with_nested_ruledef-bounds-starts-set t c =
+pub match_with_nested_ruledef-bounds-lent-set : goal.match_with_nested_ruledef-bounds-lent-set
+match_with_nested_ruledef-bounds-lent-set t c =
     omega (arith, starts-long c.requires.ready _ c.requires.set_bound c.if-depth-ge-DEPTH.false, c.requires.set_bound)
 
-pub match_with_nested_ruledef-bounds-starts-set-2 : goal.match_with_nested_ruledef-bounds-starts-set-2
-match_with_nested_ruledef-bounds-starts-set-2 t c =
+pub match_with_nested_ruledef-bounds-lent-set-2 : goal.match_with_nested_ruledef-bounds-lent-set-2
+match_with_nested_ruledef-bounds-lent-set-2 t c =
     omega (arith, starts-long c.requires.ready _ c.requires.set_bound c.if-depth-ge-DEPTH.false, c.requires.set_bound)
 
 pub match_with_nested_ruledef-overflow_sub-count : goal.match_with_nested_ruledef-overflow_sub-count
@@ -69,7 +69,7 @@ pub match_with_nested_ruledef-loop-limit-init : goal.match_with_nested_ruledef-l
 match_with_nested_ruledef-loop-limit-init t c = limits-start c.requires.ready _ c.requires.set_bound c.if-depth-ge-DEPTH.false [] _
 
 pub match_with_nested_ruledef-shared_ref_as_front-limit-items : goal.match_with_nested_ruledef-shared_ref_as_front-limit-items
-match_with_nested_ruledef-shared_ref_as_front-limit-items t c = (limits-two _ _ c.args.sheet.now _ _ _ c.find_limits-limits.ensures.answers).0
+match_with_nested_ruledef-shared_ref_as_front-limit-items t c = (limits-two _ _ c.args.lent.now.sheet.now _ _ _ c.find_limits-limits.ensures.answers).0
 
 pub match_with_nested_ruledef-look_ahead-ahead-requires-clause-cursor_le_limit : goal.match_with_nested_ruledef-look_ahead-ahead-requires-clause-cursor_le_limit
 match_with_nested_ruledef-look_ahead-ahead-requires-clause-cursor_le_limit t c = let (a, b) = inner-within c.requires.ready _ c.requires.set_bound c.if-depth-ge-DEPTH.false _ _ refl refl _ (limits-held _ _ _ _ _ _ c.find_limits-limits.ensures.answers) _ c.loop-limit-test.true _ refl _ c.set_cursor_limit-inner.ensures.answers in omega (arith, a, c.requires.ready.cursor)
@@ -85,8 +85,8 @@ pub match_with_nested_ruledef-loop-limit-preserved : goal.match_with_nested_rule
 match_with_nested_ruledef-loop-limit-preserved t c =
     limits-again c.requires.ready _ c.requires.set_bound c.if-depth-ge-DEPTH.false _ _ refl refl _ (limits-held _ _ _ _ _ _ c.find_limits-limits.ensures.answers) _ c.loop-limit-test.true _ refl _ c.set_cursor_limit-inner.ensures.answers c.loop-limit.invariant c.loop-rule.invariant c.loop-rule-test.false
 
-pub match_with_nested_ruledef-bounds-leads-number : goal.match_with_nested_ruledef-bounds-leads-number
-match_with_nested_ruledef-bounds-leads-number t c =
+pub match_with_nested_ruledef-bounds-lent-number : goal.match_with_nested_ruledef-bounds-lent-number
+match_with_nested_ruledef-bounds-lent-number t c =
     omega (arith, lead-there c.requires.ready _ c.requires.set_bound c.if-depth-ge-DEPTH.false _ _ refl refl c.loop-rule.rule c.loop-rule-test.true, c.requires.prepared.leads.sized)
 
 pub match_with_nested_ruledef-returns-then-walked-fails : goal.match_with_nested_ruledef-returns-then-walked-fails
@@ -94,12 +94,12 @@ match_with_nested_ruledef-returns-then-walked-fails t c =
     let (a, b) = inner-within c.requires.ready _ c.requires.set_bound c.if-depth-ge-DEPTH.false _ _ refl refl _ (limits-held _ _ _ _ _ _ c.find_limits-limits.ensures.answers) _ c.loop-limit-test.true _ refl _ c.set_cursor_limit-inner.ensures.answers in
     nested-stop c.requires.ready _ _ c.requires.set_bound c.if-depth-ge-DEPTH.false _ _ refl refl _ c.next_useful_index-begins.ensures.answers _ (limits-held _ _ _ _ _ _ c.find_limits-limits.ensures.answers) _
     (limits-stop c.requires.ready _ c.requires.set_bound c.if-depth-ge-DEPTH.false _ _ refl refl _ (limits-held _ _ _ _ _ _ c.find_limits-limits.ensures.answers) _ c.loop-limit-test.true _ refl _ c.set_cursor_limit-inner.ensures.answers c.loop-limit.invariant
-    (rules-spent c.requires.ready _ c.requires.set_bound c.if-depth-ge-DEPTH.false _ _ refl refl c.loop-rule.rule c.loop-rule-test.true _ a b c.requires.prepared.leads (λ i. omega (arith, c.type_inv.line i)) _ c.look_ahead-ahead.ensures.answers (sym c.in-Some.is ∙ c.failing_visits.ensures.answers) c.loop-rule.invariant c.if-walked-fails.true))
+    (rules-spent c.requires.ready _ c.requires.set_bound c.if-depth-ge-DEPTH.false _ _ refl refl c.loop-rule.rule c.loop-rule-test.true _ a b c.requires.prepared.leads c.args.lent.now.bytes _ c.look_ahead-ahead.ensures.answers (sym c.in-Some.is ∙ c.failing_visits.ensures.answers) c.loop-rule.invariant c.if-walked-fails.true))
 
 pub match_with_nested_ruledef-loop-rule-preserved-in-Some : goal.match_with_nested_ruledef-loop-rule-preserved-in-Some
 match_with_nested_ruledef-loop-rule-preserved-in-Some t c =
     let (a, b) = inner-within c.requires.ready _ c.requires.set_bound c.if-depth-ge-DEPTH.false _ _ refl refl _ (limits-held _ _ _ _ _ _ c.find_limits-limits.ensures.answers) _ c.loop-limit-test.true _ refl _ c.set_cursor_limit-inner.ensures.answers in
-    rules-skip c.requires.ready _ c.requires.set_bound c.if-depth-ge-DEPTH.false _ _ refl refl c.loop-rule.rule c.loop-rule-test.true _ a b c.requires.prepared.leads (λ i. omega (arith, c.type_inv.line i)) _ c.look_ahead-ahead.ensures.answers (sym c.in-Some.is ∙ c.failing_visits.ensures.answers) c.loop-rule.invariant c.if-walked-fails.false
+    rules-skip c.requires.ready _ c.requires.set_bound c.if-depth-ge-DEPTH.false _ _ refl refl c.loop-rule.rule c.loop-rule-test.true _ a b c.requires.prepared.leads c.args.lent.now.bytes _ c.look_ahead-ahead.ensures.answers (sym c.in-Some.is ∙ c.failing_visits.ensures.answers) c.loop-rule.invariant c.if-walked-fails.false
 
 pub match_with_nested_ruledef-match_with_rule-requires : goal.match_with_nested_ruledef-match_with_rule-requires
 match_with_nested_ruledef-match_with_rule-requires t c =

@@ -9,23 +9,23 @@ use Rattle.walk.proofs.+match_with_expr_match_with_nested_ruledef_match_with_rul
 
 abbrev pub invariant-match_with_expr-loop-end : goal.invariant-match_with_expr-loop-end
 invariant-match_with_expr-loop-end l =
-    ExprDid l.table l.line l.sheet l.place l.walker.limit l.begins l.end-items l.initial.walked.left l.initial.walked.pool.used l.initial.store l.end-index l.walked.left l.walked.pool.used l.store
+    ExprDid l.lent.table.now l.lent.line.now l.lent.sheet.now l.place l.walker.limit l.begins l.end-items l.initial.walked.left l.initial.walked.pool.used l.initial.store l.end-index l.walked.left l.walked.pool.used l.store
 
 abbrev pub invariant-match_with_nested_ruledef-loop-rule : goal.invariant-match_with_nested_ruledef-loop-rule
 invariant-match_with_nested_ruledef-loop-rule l =
-    RulesDid l.table l.line l.sheet l.depth l.set l.inner l.count l.initial.walked.left l.initial.walked.pool.used l.initial.store l.rule l.walked.left l.walked.pool.used l.store
+    RulesDid l.lent.table.now l.lent.line.now l.lent.sheet.now l.depth l.set l.inner l.count l.initial.walked.left l.initial.walked.pool.used l.initial.store l.rule l.walked.left l.walked.pool.used l.store
 
 abbrev pub invariant-match_with_nested_ruledef-loop-limit : goal.invariant-match_with_nested_ruledef-loop-limit
 invariant-match_with_nested_ruledef-loop-limit l =
-    LimitsDid l.table l.line l.sheet l.depth l.set l.walker.cursor l.limit-items l.initial.walked.left l.initial.walked.pool.used l.initial.store l.limit-index l.walked.left l.walked.pool.used l.store
+    LimitsDid l.lent.table.now l.lent.line.now l.lent.sheet.now l.depth l.set l.walker.cursor l.limit-items l.initial.walked.left l.initial.walked.pool.used l.initial.store l.limit-index l.walked.left l.walked.pool.used l.store
 
 abbrev pub invariant-match_with_nested_ruledef-loop-m : goal.invariant-match_with_nested_ruledef-loop-m
 invariant-match_with_nested_ruledef-loop-m l =
-    NestDid l.table l.line l.sheet l.place l.walker.limit l.begins l.first l.initial.walked.left l.initial.walked.pool.used l.initial.store l.m l.walked.left l.walked.pool.used l.store
+    NestDid l.lent.table.now l.lent.line.now l.lent.sheet.now l.place l.walker.limit l.begins l.first l.initial.walked.left l.initial.walked.pool.used l.initial.store l.m l.walked.left l.walked.pool.used l.store
 
 abbrev pub invariant-match_with_rule-loop-left : goal.invariant-match_with_rule-loop-left
 invariant-match_with_rule-loop-left l =
-    Along l.table l.line l.sheet l.place l.initial.here l.end l.pool.used l.initial.store l.initial.left l.initial.at l.store l.left l.at (l.exact + l.passed) l.here
+    Along l.lent.table.now l.lent.line.now l.lent.sheet.now l.place l.initial.here l.end l.pool.used l.initial.store l.initial.left l.initial.at l.store l.left l.at (l.exact + l.passed) l.here
 
 abbrev pub decreases-match_with_rule-loop-left : goal.decreases-match_with_rule-loop-left
 decreases-match_with_rule-loop-left l = l.left

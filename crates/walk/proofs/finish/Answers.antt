@@ -11,7 +11,7 @@ returns-then-not-is_over c = finish-short _ _ _ _ _ _ _ c.requires.stored c.if-d
 
 pub returns-in-Some : goal.returns-in-Some
 returns-in-Some c =
-    let goes : c.args.place.depth ≡ 0 → c.args.walker.cursor ≡ length c.args.line.now = λ e. elim c.else-depth-eq0.branch [
+    let goes : c.args.place.depth ≡ 0 → c.args.walker.cursor ≡ length c.args.lent.now.line.now = λ e. elim c.else-depth-eq0.branch [
       | else-depth-eq0-via-then-depth-eq0+else-not-is_over w ↦ is-over _ _ c.requires.cursor_le_limit (c.requires.limit_value e) (sym w.is_over.ensures.answers ∙ w.if-not-is_over.false)
       | else-depth-eq0-via-else-depth-eq0 w ↦ absurd (omega (arith, w.if-depth-eq0.false, e))
     ] in
@@ -19,7 +19,7 @@ returns-in-Some c =
 
 pub returns-in-None : goal.returns-in-None
 returns-in-None c =
-    let goes : c.args.place.depth ≡ 0 → c.args.walker.cursor ≡ length c.args.line.now = λ e. elim c.else-depth-eq0.branch [
+    let goes : c.args.place.depth ≡ 0 → c.args.walker.cursor ≡ length c.args.lent.now.line.now = λ e. elim c.else-depth-eq0.branch [
       | else-depth-eq0-via-then-depth-eq0+else-not-is_over w ↦ is-over _ _ c.requires.cursor_le_limit (c.requires.limit_value e) (sym w.is_over.ensures.answers ∙ w.if-not-is_over.false)
       | else-depth-eq0-via-else-depth-eq0 w ↦ absurd (omega (arith, w.if-depth-eq0.false, e))
     ] in

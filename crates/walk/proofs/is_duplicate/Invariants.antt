@@ -1,5 +1,5 @@
 use mathlib.Core.Path.{◌≡◌}
-use Prim.Native.Nat.{ℕ, ◌≤◌}
+use Prim.Native.Nat.{ℕ}
 use Rattle.readings.specs.Walk.{any_same, same_match}
 use Rattle.pool.specs.Meaning.{tree_at, gathered, entries}
 use Rattle.walk.specs.Met.{made}

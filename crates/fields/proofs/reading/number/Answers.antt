@@ -1,28 +1,36 @@
 -- `fields::reading::number` meets its contract: one digit, two without a leading zero, or none below 100.
-use mathlib.Core.Path.{sym, ap, ap₂, ◌∙◌}
-use mathlib.Core.Logic.{inl, inr}
-use Prim.Native.Nat.{ℕ, ◌+◌, ◌*◌}
+use mathlib.Core.Path.{sym, ap, ◌∙◌}
+use Rattle.std.specs.Prelude.{Some, ◌≡◌}
 use native.Mathlib.Omega.{arith}
 use Rattle.printing.specs.Listing.{Bytes}
 use Rattle.printing.specs.Reading.{number_of}
 use Rattle.fields.specs.Said.{low_number}
-use Rattle.fields.proofs.Scans.{low-one, low-long, two_none, two-some, slice-one, slice-two, slice-size}
+use Rattle.fields.proofs.Scans.{one_byte, two_bytes, digit-back, low-one, low-long, two-first, two-second, two-zero, two-some}
 use Rattle.fields.proofs.reading.number.Goals as goal
 
-pub returns-then-end-at-eq1 : goal.returns-then-end-at-eq1
-returns-then-end-at-eq1 c = record { answers = c.digit.ensures.answers ∙ low-one _ ∙ ap (λ (x : Bytes). low_number (number_of x)) (sym (slice-one c.args.text.now c.args.at c.args.end c.requires.end_in_bounds (omega arith))) }
+pub returns-in-len1 : goal.returns-in-len1
+returns-in-len1 c = record { answers = c.digit.ensures.answers ∙ low-one _ ∙ ap (λ (x : Bytes). low_number (number_of x)) (sym (one_byte c.args.field.now (omega arith))) }
 
-pub returns-then-end-at-ne-MOST_DIGITS : goal.returns-then-end-at-ne-MOST_DIGITS
-returns-then-end-at-ne-MOST_DIGITS c = record { answers = low-long _ (λ e. omega (arith, slice-size c.args.text.now c.args.at c.args.end c.requires.end_in_bounds)) (λ e. omega (arith, slice-size c.args.text.now c.args.at c.args.end c.requires.end_in_bounds)) }
+pub returns-in_err-tens-in-len2 : goal.returns-in_err-tens-in-len2
+returns-in_err-tens-in-len2 c = record { answers = rw c.from_residual.ensures (two-first _ _ (sym c.digit-in-len2.ensures.answers ∙ c.in_err-tens-in-len2.was) ∙ ap (λ (x : Bytes). low_number (number_of x)) (sym (two_bytes c.args.field.now (omega arith)))) }
+
+pub returns-in_err-ones-in-len2 : goal.returns-in_err-ones-in-len2
+returns-in_err-ones-in-len2 c = record { answers = rw c.from_residual-in_err-ones-in-len2.ensures (two-second _ _ (sym c.digit-in-len2-2.ensures.answers ∙ c.in_err-ones-in-len2.was) ∙ ap (λ (x : Bytes). low_number (number_of x)) (sym (two_bytes c.args.field.now (omega arith)))) }
 
 pub returns-then-tens-eq0 : goal.returns-then-tens-eq0
-returns-then-tens-eq0 c = record { answers = two_none _ _ (inl (omega (arith, c.digit-tens.ensures.answers))) ∙ ap (λ (x : Bytes). low_number (number_of x)) (sym (slice-two c.args.text.now c.args.at c.args.end c.requires.end_in_bounds (omega arith))) }
+returns-then-tens-eq0 c = let z : c.in_ok-tens-in-len2.tens ≡ 0 = omega arith in record { answers = two-zero _ _ (sym c.digit-in-len2.ensures.answers ∙ c.in_ok-tens-in-len2.was ∙ ap Some z) ∙ ap (λ (x : Bytes). low_number (number_of x)) (sym (two_bytes c.args.field.now (omega arith))) }
 
-pub returns-then-tens-ge-TEN : goal.returns-then-tens-ge-TEN
-returns-then-tens-ge-TEN c = record { answers = two_none _ _ (inr (inl (omega (arith, c.digit-tens.ensures.answers)))) ∙ ap (λ (x : Bytes). low_number (number_of x)) (sym (slice-two c.args.text.now c.args.at c.args.end c.requires.end_in_bounds (omega arith))) }
+pub overflow_add-result : goal.overflow_add-result
+overflow_add-result c = omega (arith, digit-back _ _ (sym c.digit-in-len2.ensures.answers ∙ c.in_ok-tens-in-len2.was), digit-back _ _ (sym c.digit-in-len2-2.ensures.answers ∙ c.in_ok-ones-in-len2.was))
 
-pub returns-then-ones-ge-TEN : goal.returns-then-ones-ge-TEN
-returns-then-ones-ge-TEN c = record { answers = two_none _ _ (inr (inr (omega (arith, c.digit-ones.ensures.answers)))) ∙ ap (λ (x : Bytes). low_number (number_of x)) (sym (slice-two c.args.text.now c.args.at c.args.end c.requires.end_in_bounds (omega arith))) }
+pub returns-else-tens-eq0 : goal.returns-else-tens-eq0
+returns-else-tens-eq0 c = record { answers = two-some _ _ _ _ (sym c.digit-in-len2.ensures.answers ∙ c.in_ok-tens-in-len2.was) (sym c.digit-in-len2-2.ensures.answers ∙ c.in_ok-ones-in-len2.was) (λ e. omega arith) ∙ ap (λ (x : Bytes). low_number (number_of x)) (sym (two_bytes c.args.field.now (omega arith))) }
 
-pub returns : goal.returns
-returns c = record { answers = ap₂ (λ (x y : ℕ). 10 * x + y) c.digit-tens.ensures.answers c.digit-ones.ensures.answers ∙ two-some _ _ (λ e. omega (arith, c.digit-tens.ensures.answers)) (omega (arith, c.digit-tens.ensures.answers)) (omega (arith, c.digit-ones.ensures.answers)) ∙ ap (λ (x : Bytes). low_number (number_of x)) (sym (slice-two c.args.text.now c.args.at c.args.end c.requires.end_in_bounds (omega arith))) }
+pub overflow_mul-result : goal.overflow_mul-result
+overflow_mul-result c = omega (arith, digit-back _ _ (sym c.digit-in-len2.ensures.answers ∙ c.in_ok-tens-in-len2.was))
+
+pub returns-in_default : goal.returns-in_default
+returns-in_default c = record { answers = low-long c.args.field.now (λ e. omega arith) (λ e. omega arith) }
+
+pub returns-in_default-2 : goal.returns-in_default-2
+returns-in_default-2 c = record { answers = low-long c.args.field.now (λ e. omega arith) (λ e. omega arith) }

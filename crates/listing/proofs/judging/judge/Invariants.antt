@@ -1,11 +1,10 @@
--- `listing::judging::judge` meets its contract. The loop's invariant: the text from here is read as the whole text is.
-use Prim.Native.Nat.{◌-◌}
+-- `listing::judging::judge` meets its contract. The loop's invariant: what is left is read as the whole text is.
 use lib.ListN.{length}
 use Rattle.listing.proofs.Steps.{From}
 use Rattle.listing.proofs.judging.judge.Given as goal
 
-abbrev pub invariant-loop-at : goal.invariant-loop-at
-invariant-loop-at l = From l.text l.at l.sizes.sets l.sizes.rules l.sizes.parts l.sizes.last
+abbrev pub invariant-loop-line : goal.invariant-loop-line
+invariant-loop-line l = From l.text l.rest l.sizes.sets l.sizes.rules l.sizes.parts l.sizes.last
 
-abbrev pub decreases-loop-at : goal.decreases-loop-at
-decreases-loop-at l = length l.text - l.at
+abbrev pub decreases-loop-line : goal.decreases-loop-line
+decreases-loop-line l = length l.rest

@@ -1,13 +1,35 @@
-use Rattle.fields.proofs.Laying.{laying-next, laying-done, laid_in}
-use Rattle.listing.specs.Judging.{fields_at}
-use Rattle.listing.proofs.Rows.{said-next, said-over, said-room}
+use mathlib.Core.Path.{sym, ◌∙◌}
+use native.Mathlib.Omega.{arith}
+use Rattle.fields.specs.Said.{fields_left}
+use Rattle.fields.proofs.Laying.{laying-all, laying-next, laying-done, laid_in}
+use Rattle.listing.specs.Packing.{words_said}
+use Rattle.listing.proofs.Rows.{said-none, said-next, said-room, said-head, said-tail}
 use Rattle.listing.proofs.reading.lay_parts.Goals as goal
 
-pub bounds-table-to : goal.bounds-table-to
-bounds-table-to c = said-room c.args.sets (fields_at c.args.text.now c.args.tab c.args.end) c.args.table.now c.loop-at.table _ _ c.args.from c.loop-at.to _ c.requires.end_in_bounds_2 (said-next c.args.sets c.args.text.now c.loop-at.at c.args.end c.find-at.result _ c.requires.end_in_bounds c.loop-at-test.true c.find-at.ensures.answers c.part_word.ensures.answers) c.loop-at.invariant.0
+pub loop-field-init : goal.loop-field-init
+loop-field-init c =
+    rw c.into_iter-field-iterator.ensures.into_iter_gives (record { laying = laying-all c.args.table.now c.args.from (words_said c.args.sets (fields_left c.args.fields)); said = c.requires.said })
 
-pub loop-at-preserved : goal.loop-at-preserved
-loop-at-preserved c = (laying-next _ _ (said-next c.args.sets c.args.text.now c.loop-at.at c.args.end c.find-at.result _ c.requires.end_in_bounds c.loop-at-test.true c.find-at.ensures.answers c.part_word.ensures.answers) c.loop-at.invariant.0 (laid_in c.loop-at.table c.loop-at.to _), c.find-at.ensures.answers.to)
+pub unwrap-word-requires : goal.unwrap-word-requires
+unwrap-word-requires c = said-head c.args.sets c.part_word.result c.in-Some.ensures.steps c.part_word.ensures.answers c.loop-field.invariant.said
+
+pub offset_bounds-table-to : goal.offset_bounds-table-to
+offset_bounds-table-to c = omega (arith, said-room c.args.sets (fields_left c.args.fields) c.args.table.now c.loop-field.table _ _ c.args.from c.loop-field.to _ c.requires.end_in_bounds c.requires.said (said-next c.args.sets _ _ _ c.in-Some.ensures.steps (sym c.unwrap-word.ensures ∙ c.part_word.ensures.answers)) c.loop-field.invariant.laying)
+
+pub bounds-table-to : goal.bounds-table-to
+bounds-table-to c =
+    said-room c.args.sets (fields_left c.args.fields) c.args.table.now c.loop-field.table _ _ c.args.from c.loop-field.to _ c.requires.end_in_bounds c.requires.said
+    (said-next c.args.sets _ _ _ c.in-Some.ensures.steps (sym c.unwrap-word.ensures ∙ c.part_word.ensures.answers)) c.loop-field.invariant.laying
+
+pub overflow_add-to : goal.overflow_add-to
+overflow_add-to c = omega (arith, said-room c.args.sets (fields_left c.args.fields) c.args.table.now c.loop-field.table _ _ c.args.from c.loop-field.to _ c.requires.end_in_bounds c.requires.said (said-next c.args.sets _ _ _ c.in-Some.ensures.steps (sym c.unwrap-word.ensures ∙ c.part_word.ensures.answers)) c.loop-field.invariant.laying)
+
+pub loop-field-preserved : goal.loop-field-preserved
+loop-field-preserved c = record {
+  laying = laying-next _ _ (said-next c.args.sets _ _ _ c.in-Some.ensures.steps (sym c.unwrap-word.ensures ∙ c.part_word.ensures.answers)) c.loop-field.invariant.laying
+      (laid_in c.loop-field.table c.loop-field.to _);
+  said = said-tail c.args.sets c.in-Some.ensures.steps c.loop-field.invariant.said;
+}
 
 pub returns : goal.returns
-returns c = record { laid = laying-done _ (said-over c.args.sets c.args.text.now c.loop-at.at c.args.end c.loop-at-test.false) c.loop-at.invariant.0 }
+returns c = record { laid = laying-done _ (said-none c.args.sets c.in-None.ensures.steps.0) c.loop-field.invariant.laying }

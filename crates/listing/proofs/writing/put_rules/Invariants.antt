@@ -8,6 +8,3 @@ use Rattle.listing.proofs.writing.put_rules.Given as goal
 abbrev pub invariant-loop-rule : goal.invariant-loop-rule
 invariant-loop-rule l =
     Laying l.initial.text l.at (rules_text l.table 0 (records_in l.table)) l.text l.to (rules_text l.table l.rule (records_in l.table - l.rule)) × (l.rule ≤ records_in l.table)
-
-abbrev pub decreases-loop-rule : goal.decreases-loop-rule
-decreases-loop-rule l = records_in l.table - l.rule

@@ -8,6 +8,3 @@ use Rattle.listing.proofs.writing.put_tops.Given as goal
 abbrev pub invariant-loop-set : goal.invariant-loop-set
 invariant-loop-set l =
     Laying l.initial.text 0 (tops_text l.table 0 (rulesets_in l.table)) l.text l.to (tops_text l.table l.set (rulesets_in l.table - l.set)) × (l.set ≤ rulesets_in l.table)
-
-abbrev pub decreases-loop-set : goal.decreases-loop-set
-decreases-loop-set l = rulesets_in l.table - l.set
