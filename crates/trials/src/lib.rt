@@ -25,7 +25,7 @@ use places;
 use pool::Pool;
 use syntax::walker::Walker;
 use useful;
-use walk::{Place, Refusal, Stopped, Walked};
+use walk::{Lent, Place, Refusal, Stopped, Walked};
 
 const MOST_VISITS: u32 = 1_000_000;
 
@@ -126,31 +126,26 @@ fn scans(order: Order) -> bool
 // The rule walk for each rule, on the whole line from its start: a top rule has depth 0 and must end at the line's end. A rule
 // that fails in its leading exact parts takes no walk to count.
 fn try_rules(
-    table: &[u16],
-    line: &[u8],
-    useful: &[u8; useful::PLACES],
-    sheet: &[u8],
-    starts: &[u16],
-    leads: &[u32; ruledef::MOST_RULES],
+    lent: &Lent,
     places: &[u16],
     store: &mut [usize],
     rules: &[u16],
     order: Order,
     visits: usize,
 ) -> Result<Walked, Stopped>
-    requires try_asked { TryAsked table.now line.now sheet.now starts.now places.now store.old rules.now visits }
-    requires prepared { Prepared table.now line.now useful.now leads.now }
-    ensures { Tried table.now (run (tries (scene_of table.now line.now sheet.now) (tried_pairs table.now rules.now)) visits 0) store.new result }
+    requires try_asked { TryAsked lent.now.table.now lent.now.line.now lent.now.sheet.now lent.now.starts.now places.now store.old rules.now visits }
+    requires prepared { Prepared lent.now.table.now lent.now.line.now lent.now.useful.now lent.now.leads.now }
+    ensures { Tried lent.now.table.now (run (tries (scene_of lent.now.table.now lent.now.line.now lent.now.sheet.now) (tried_pairs lent.now.table.now rules.now)) visits 0) store.new result }
 {
-    let walker = Walker::new(line);
-    let ahead = leads::look_ahead(line, useful, walker, scans(order));
+    let walker = Walker::new(lent.line);
+    let ahead = leads::look_ahead(lent.line, lent.useful, walker, scans(order));
     let mut so_far = Walked {
         left: visits,
         pool: Pool::new(),
     };
     for rule in rules {
         let rule = *rule as usize;
-        if let Some(fails) = leads::failing_visits(leads[rule], ahead) {
+        if let Some(fails) = leads::failing_visits(lent.leads[rule], ahead) {
             if so_far.left < fails {
                 return Err(Stopped {
                     why: Refusal::Spent,
@@ -169,20 +164,7 @@ fn try_rules(
             depth: 0,
             args: 0,
         };
-        so_far = walk::match_with_rule(
-            table,
-            line,
-            useful,
-            sheet,
-            starts,
-            leads,
-            store,
-            place,
-            0,
-            walker,
-            so_far.left,
-            so_far.pool,
-        )?;
+        so_far = walk::match_with_rule(lent, store, place, 0, walker, so_far.left, so_far.pool)?;
     }
     Ok(so_far)
 }
@@ -250,9 +232,15 @@ pub fn read_line(
     let visits = budget as usize;
     let mut useful = extents::held_places();
     useful::find_places(line, &mut useful);
-    match try_rules(
-        table, line, &useful, sheet, starts, leads, places, store, rules, order, visits,
-    ) {
+    let lent = Lent {
+        table,
+        line,
+        useful: &useful,
+        sheet,
+        starts,
+        leads,
+    };
+    match try_rules(&lent, places, store, rules, order, visits) {
         Err(stop) => Err(stopped(stop.why, (visits - stop.left) as u32)),
         Ok(walked) => tell(
             table,

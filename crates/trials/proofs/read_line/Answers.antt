@@ -13,6 +13,9 @@ try_rules-requires-clause-try_asked c = try-asked c.requires.read_asked
 pub try_rules-requires-clause-prepared : goal.try_rules-requires-clause-prepared
 try_rules-requires-clause-prepared c = record { places = record { short = (line-good c.requires.read_asked).short; are = c.find_places.ensures.answers }; leads = c.requires.leads }
 
+pub invariant_of-lent : goal.invariant_of-lent
+invariant_of-lent c = record { bytes = λ i. omega (arith, c.type_inv.line i) }
+
 pub overflow_sub-visits : goal.overflow_sub-visits
 overflow_sub-visits c = call-within c.requires.read_asked c.in-Err.stop.why (stopped-by c.try_rules.ensures c.in-Err.is)
 

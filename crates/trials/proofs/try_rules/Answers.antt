@@ -7,14 +7,14 @@ use Rattle.trials.proofs.try_rules.Goals as goal
 pub loop-rule-init : goal.loop-rule-init
 loop-rule-init c = tries-start c.requires.try_asked _ c.new.ensures.answers
 
-pub bounds-leads-rule : goal.bounds-leads-rule
-bounds-leads-rule c = omega (arith, (words-there c.requires.try_asked _ c.loop-rule.invariant (omega arith) _ refl).0, c.requires.prepared.leads.sized)
+pub bounds-lent-rule : goal.bounds-lent-rule
+bounds-lent-rule c = omega (arith, (words-there c.requires.try_asked _ c.loop-rule.invariant (omega arith) _ refl).0, c.requires.prepared.leads.sized)
 
 pub returns-then-so_far-fails : goal.returns-then-so_far-fails
-returns-then-so_far-fails c = tries-spent c.requires.try_asked _ c.loop-rule.invariant (omega arith) _ refl c.requires.prepared.leads (λ j. omega (arith, c.type_inv.line j)) _ c.new-walker.ensures.answers.0 c.new-walker.ensures.answers.1 _ c.look_ahead-ahead.ensures.answers (sym c.in-Some.is ∙ c.failing_visits.ensures.answers) c.if-so_far-fails.true c.new.ensures.answers
+returns-then-so_far-fails c = tries-spent c.requires.try_asked _ c.loop-rule.invariant (omega arith) _ refl c.requires.prepared.leads c.args.lent.now.bytes _ c.new-walker.ensures.answers.0 c.new-walker.ensures.answers.1 _ c.look_ahead-ahead.ensures.answers (sym c.in-Some.is ∙ c.failing_visits.ensures.answers) c.if-so_far-fails.true c.new.ensures.answers
 
 pub loop-rule-preserved-in-Some : goal.loop-rule-preserved-in-Some
-loop-rule-preserved-in-Some c = tries-skip c.requires.try_asked _ c.loop-rule.invariant (omega arith) _ refl c.requires.prepared.leads (λ j. omega (arith, c.type_inv.line j)) _ c.new-walker.ensures.answers.0 c.new-walker.ensures.answers.1 _ c.look_ahead-ahead.ensures.answers (sym c.in-Some.is ∙ c.failing_visits.ensures.answers) c.if-so_far-fails.false
+loop-rule-preserved-in-Some c = tries-skip c.requires.try_asked _ c.loop-rule.invariant (omega arith) _ refl c.requires.prepared.leads c.args.lent.now.bytes _ c.new-walker.ensures.answers.0 c.new-walker.ensures.answers.1 _ c.look_ahead-ahead.ensures.answers (sym c.in-Some.is ∙ c.failing_visits.ensures.answers) c.if-so_far-fails.false
 
 pub bounds-places-at : goal.bounds-places-at
 bounds-places-at c = omega (arith, (words-there c.requires.try_asked _ c.loop-rule.invariant (omega arith) _ refl).1)
