@@ -4,7 +4,7 @@ use mathlib.Core.Path.{◌≡◌, refl, sym, ap, ap₂, ◌∙◌, subst}
 use mathlib.Core.Logic.{⊎_elim}
 use mathlib.Core.Bool.{true}
 use mathlib.Core.List.{List}
-use Rattle.std.specs.Prelude.{None}
+use Rattle.std.specs.Prelude.{None, Result, Ok}
 use Prim.Native.Nat.{ℕ}
 use native.Mathlib.Omega.{arith}
 use lib.ListN.{length}
@@ -16,7 +16,6 @@ use Rattle.defs.specs.Table.{table_fits}
 use Rattle.extents.specs.Sheet.{sheet_fits}
 use Rattle.expressions.specs.Sheet.{sheet_of}
 use Rattle.expressions.specs.Call.{filled_with}
-use Rattle.expressions.specs.declared.Filling.TheVariants.{Filled}
 use Rattle.expressions.proofs.Called.{filled-good, filled_is}
 use Rattle.expressions.proofs.fill_sheet.Reads as fill-sheet
 use Rattle.readings.specs.Scene.{Scene, scene_of, based}
@@ -26,7 +25,8 @@ use Rattle.readings.specs.Walk.{top_pairs}
 use Rattle.readings.specs.Lookup.{found_pairs}
 use Rattle.ruledef_map.specs.RuledefMap.{line_prefix}
 use Rattle.readings.proofs.Numbers.{Case, walk, extents, exactly, stop-numbers}
-use Rattle.trials.specs.declared.Answer.{Answer}
+use Rattle.trials.specs.declared.Matched.{Matched}
+use Rattle.trials.specs.declared.Refused.{Refused}
 use Rattle.trials.specs.Told.{says}
 use Rattle.matcher.proofs.match_instr.Reads as match-instr
 use Rattle.matcher.proofs.match_with_ruledef_map.Reads as match-with-ruledef-map
@@ -51,7 +51,7 @@ module _ (t line sheet : List ℕ) (good : fault_at line ≡ None) (is : sheet �
       (promise (record { table = table-good; bytes = good; extents = fits; visits = budget-good; origin = base-good }) within)
 
 -- the calls: filling, then matching on the line and the sheet that it left
-module _ (κs a : _) (n : ℕ) (x : _) (fill : fill-sheet.Post κs a (Filled n) x) where
+module _ (κs a : _) (n : ℕ) (x : _) (fill : fill-sheet.Post κs a (Ok n) x) where
   -- the line, and the sheet that is left
   abbrev line : List ℕ
   line = a.0.now
@@ -80,24 +80,24 @@ module _ (κs a : _) (n : ℕ) (x : _) (fill : fill-sheet.Post κs a (Filled n) 
     there-fits = ap₂ (λ (s l : List ℕ). sheet_fits s (length l)) same-sheet same_line ∙ fits
 
   -- it is never 4
-  pub scan-not-four : (μs c : _) (r : Answer) (z : _) → match-instr.Post μs c r z → c.1.0.now ≡ line → c.1.1.0.now ≡ sheet → (says r z.1.1.1.1.1.0.now).number ≡ 4 → ⊥
+  pub scan-not-four : (μs c : _) (r : Result Matched Refused) (z : _) → match-instr.Post μs c r z → c.1.0.now ≡ line → c.1.1.0.now ≡ sheet → (says r z.1.1.1.1.1.0.now).number ≡ 4 → ⊥
   scan-not-four μs c r z p l s e =
       never-four top_pairs c.0.now c.1.0.now c.1.1.0.now c.1.1.1.0 c.1.1.1.1.0 c.1.1.1.1.1.0.now (there-fits c.1.0.now c.1.1.0.now l s)
       (sym (ap (λ (t : Told). t.number) p.0) ∙ e)
 
-  pub lookup-not-four : (μs c : _) (r : Answer) (z : _) → match-with-ruledef-map.Post μs c r z → c.1.0.now ≡ line → c.1.1.0.now ≡ sheet → (says r z.1.1.1.1.1.0.now).number ≡ 4 → ⊥
+  pub lookup-not-four : (μs c : _) (r : Result Matched Refused) (z : _) → match-with-ruledef-map.Post μs c r z → c.1.0.now ≡ line → c.1.1.0.now ≡ sheet → (says r z.1.1.1.1.1.0.now).number ≡ 4 → ⊥
   lookup-not-four μs c r z p l s e =
       never-four (λ s. found_pairs s (line_prefix s.line)) c.0.now c.1.0.now c.1.1.0.now c.1.1.1.0 c.1.1.1.1.0 c.1.1.1.1.1.0.now (there-fits c.1.0.now c.1.1.0.now l s)
       (sym (ap (λ (t : Told). t.number) p.0) ∙ e)
 
   -- and tells the readings of the line alone, as demand 3 says
-  pub scan-reads : (μs c : _) (r : Answer) (z : _) → match-instr.Post μs c r z → c.1.0.now ≡ line → c.1.1.0.now ≡ sheet → table_fits c.0.now ≡ true → budget_fits c.1.1.1.0 ≡ true → base_fits c.1.1.1.1.0 ≡ true
+  pub scan-reads : (μs c : _) (r : Result Matched Refused) (z : _) → match-instr.Post μs c r z → c.1.0.now ≡ line → c.1.1.0.now ≡ sheet → table_fits c.0.now ≡ true → budget_fits c.1.1.1.0 ≡ true → base_fits c.1.1.1.1.0 ≡ true
       → Within c.0.now c.1.0.now c.1.1.0.now c.1.1.1.0 → Demand3 (based c.1.1.1.1.0 (line_scene c.0.now c.1.0.now)) c.1.1.1.1.1.0.now (says r z.1.1.1.1.1.0.now)
   scan-reads μs c r z p l s =
       reads-alone c.0.now c.1.0.now c.1.1.0.now (there-good c.1.0.now c.1.1.0.now l s) (there-is c.1.0.now c.1.1.0.now l s)
       (there-fits c.1.0.now c.1.1.0.now l s) c.1.1.1.0 c.1.1.1.1.0 c.1.1.1.1.1.0.now (says r z.1.1.1.1.1.0.now) p.1
 
-  pub lookup-reads : (μs c : _) (r : Answer) (z : _) → match-with-ruledef-map.Post μs c r z → c.1.0.now ≡ line → c.1.1.0.now ≡ sheet → table_fits c.0.now ≡ true → budget_fits c.1.1.1.0 ≡ true → base_fits c.1.1.1.1.0 ≡ true
+  pub lookup-reads : (μs c : _) (r : Result Matched Refused) (z : _) → match-with-ruledef-map.Post μs c r z → c.1.0.now ≡ line → c.1.1.0.now ≡ sheet → table_fits c.0.now ≡ true → budget_fits c.1.1.1.0 ≡ true → base_fits c.1.1.1.1.0 ≡ true
       → Within c.0.now c.1.0.now c.1.1.0.now c.1.1.1.0 → Demand3 (based c.1.1.1.1.0 (line_scene c.0.now c.1.0.now)) c.1.1.1.1.1.0.now (says r z.1.1.1.1.1.0.now)
   lookup-reads μs c r z p l s =
       reads-alone c.0.now c.1.0.now c.1.1.0.now (there-good c.1.0.now c.1.1.0.now l s) (there-is c.1.0.now c.1.1.0.now l s)

@@ -1,16 +1,15 @@
 -- An answer's case as the C struct's fields, and what is promised of it.
 use mathlib.Core.Path.{◌≡◌, sym, ap, subst, ◌∙◌}
 use mathlib.Core.List.{List}
-use Prim.Native.Nat.{ℕ, ◌≤◌}
+use Rattle.std.specs.Prelude.{Result}
+use Prim.Native.Nat.{ℕ}
 use Rattle.plain.specs.Told.{Told}
 use Rattle.readings.specs.Scene.{Scene}
 use Rattle.readings.specs.Demand.{Demand3}
 use Rattle.listing.specs.Calls.{ReadCall}
-use Rattle.expressions.specs.Call.{FillCall, FilledFits}
+use Rattle.expressions.specs.Call.{FillCall}
 use Rattle.tholdrimash.specs.declared.TholdrimashAnswer.{TholdrimashAnswer}
-use Rattle.runs.specs.Program.{ProgramTold}
-use Rattle.runs.specs.Demand.{ReadProgram}
-use Rattle.program.specs.declared.ProgramAnswer.{ProgramAnswer}
+use Rattle.program.specs.declared.ProgramError.{ProgramError}
 use Rattle.program.specs.Says.{program_says}
 use Rattle.tholdrimash.specs.Interface.{told, told_whole}
 
@@ -23,12 +22,6 @@ fields-of {A = A} says e q f b = ap (λ (x : TholdrimashAnswer). told x b) q ∙
 pub reads_of : (s : Scene) (b : List ℕ) {r q : Told} → r ≡ q → Demand3 s b q → Demand3 s b r
 reads_of s b e d = subst (Demand3 s b) (sym e) d
 
-pub visits-of : {r q : Told} {n : ℕ} → r ≡ q → q.visits ≤ n → r.visits ≤ n
-visits-of {n = n} e h = subst (λ (x : Told). x.visits ≤ n) (sym e) h
-
-pub tells-of : {r q : Told} {n m : ℕ} → r ≡ q → (q.number ≡ n) × (q.words ≡ m) → (r.number ≡ n) × (r.words ≡ m)
-tells-of e (h, k) = (ap (λ (x : Told). x.number) e ∙ h, ap (λ (x : Told). x.words) e ∙ k)
-
 -- what reading may tell, the struct's fields may tell
 pub call-of : (text room : List ℕ) {r q : Told} → r ≡ q → ReadCall text room q → ReadCall text room r
 call-of text room e c = subst (ReadCall text room) (sym e) c
@@ -37,16 +30,7 @@ call-of text room e c = subst (ReadCall text room) (sym e) c
 pub fills_of : (line sheet : List ℕ) {r q : Told} → r ≡ q → FillCall line sheet q → FillCall line sheet r
 fills_of line sheet e c = subst (FillCall line sheet) (sym e) c
 
-pub fits-of : (line : List ℕ) {r q : Told} → r ≡ q → FilledFits line q → FilledFits line r
-fits-of line e f = subst (FilledFits line) (sym e) f
-
 -- of a program call's answers
-module _ {answer a : ProgramAnswer} {r s : TholdrimashAnswer} where
+module _ {answer a : Result ℕ ProgramError} {r s : TholdrimashAnswer} where
   pub whole_of : answer ≡ a → r ≡ s → ((rows b : List ℕ) → told_whole s rows b ≡ program_says a rows b) → (rows b : List ℕ) → told_whole r rows b ≡ program_says answer rows b
-  whole_of e q f rows b = ap (λ (x : TholdrimashAnswer). told_whole x rows b) q ∙ f rows b ∙ sym (ap (λ (x : ProgramAnswer). program_says x rows b) e)
-
-pub program-reads-of : (t text ends sheets budgets bases answers : List ℕ) {r q : ProgramTold} → r ≡ q → ReadProgram t text ends sheets budgets bases answers q → ReadProgram t text ends sheets budgets bases answers r
-program-reads-of t text ends sheets budgets bases answers e d = subst (ReadProgram t text ends sheets budgets bases answers) (sym e) d
-
-pub program-tells-of : {r q : ProgramTold} {rows : List ℕ} {n : ℕ} → r ≡ q → (q.rows ≡ rows) × (q.told.words ≡ n) → (r.rows ≡ rows) × (r.told.words ≡ n)
-program-tells-of e (h, k) = (ap (λ (x : ProgramTold). x.rows) e ∙ h, ap (λ (x : ProgramTold). x.told.words) e ∙ k)
+  whole_of e q f rows b = ap (λ (x : TholdrimashAnswer). told_whole x rows b) q ∙ f rows b ∙ sym (ap (λ (x : Result ℕ ProgramError). program_says x rows b) e)

@@ -18,14 +18,15 @@ ghost use Rattle.resolver.specs.Selection.{selected, selection_says};
 ghost use Rattle.listing.specs.Calls.{ReadCall, write_call, read_says, write_says};
 ghost use Rattle.expressions.specs.Call.{FillCall, FilledFits, fill_says};
 
-use expressions::Filling;
-use listing::reading::ReadAnswer;
-use listing::writing::WriteAnswer;
-use program::ProgramAnswer;
-use resolver::instruction::Selection;
-use trials::Answer;
+use expressions::FillError;
+use listing::reading::ReadError;
+use listing::writing::WriteError;
+use program::ProgramError;
+use resolver::instruction::SelectError;
+use trials::{Matched, Refused};
 
-// What matching, reading and writing tables, filling sheets, and programs return; unstated fields are 0.
+// What matching, reading and writing tables, filling sheets, and programs return; unstated fields are 0. Numbers and no enum:
+// `include/tholdrimash.h` fixes the fields, and these two structs with it.
 #[repr(C)]
 #[derive(Clone, Copy)]
 pub struct TholdrimashAnswer {
@@ -54,22 +55,72 @@ fn answer_of(number: u32, visits: u32, words: u32, place: u32) -> TholdrimashAns
     }
 }
 
-// Each answer's number and fields.
-fn fields(answer: Answer) -> TholdrimashAnswer
-    ensures { (b : List ℕ) → told result b ≡ says answer b }
-{
-    match answer {
-        Answer::Matched { visits, words } => answer_of(0, visits, words, 0),
-        Answer::NoMatch { visits } => answer_of(1, visits, 0, 0),
-        Answer::BadTable => answer_of(2, 0, 0, 0),
-        Answer::BadLine { place } => answer_of(3, 0, 0, place),
-        Answer::BadSheet => answer_of(4, 0, 0, 0),
-        Answer::BadBudget => answer_of(5, 0, 0, 0),
-        Answer::BadBase => answer_of(19, 0, 0, 0),
-        Answer::Spent { visits } => answer_of(6, visits, 0, 0),
-        Answer::TooDeep { visits } => answer_of(7, visits, 0, 0),
-        Answer::PoolFull { visits } => answer_of(8, visits, 0, 0),
-        Answer::TooLong { visits, words } => answer_of(9, visits, words, 0),
+// The numbers are the C interface's: `include/tholdrimash.h` lists them.
+impl From<Result<Matched, Refused>> for TholdrimashAnswer {
+    ghost from_gives = { λ answer fields. (b : List ℕ) → told fields b ≡ says answer b };
+
+    fn from(answer: Result<Matched, Refused>) -> TholdrimashAnswer {
+        match answer {
+            Ok(Matched { visits, words }) => answer_of(0, visits, words, 0),
+            Err(Refused::NoMatch { visits }) => answer_of(1, visits, 0, 0),
+            Err(Refused::BadTable) => answer_of(2, 0, 0, 0),
+            Err(Refused::BadLine { place }) => answer_of(3, 0, 0, place),
+            Err(Refused::BadSheet) => answer_of(4, 0, 0, 0),
+            Err(Refused::BadBudget) => answer_of(5, 0, 0, 0),
+            Err(Refused::BadBase) => answer_of(19, 0, 0, 0),
+            Err(Refused::Spent { visits }) => answer_of(6, visits, 0, 0),
+            Err(Refused::TooDeep { visits }) => answer_of(7, visits, 0, 0),
+            Err(Refused::PoolFull { visits }) => answer_of(8, visits, 0, 0),
+            Err(Refused::TooLong { visits, words }) => answer_of(9, visits, words, 0),
+        }
+    }
+}
+
+impl From<Result<u32, ReadError>> for TholdrimashAnswer {
+    ghost from_gives = { λ answer fields. (b : List ℕ) → told fields b ≡ read_says answer b };
+
+    fn from(answer: Result<u32, ReadError>) -> TholdrimashAnswer {
+        match answer {
+            Ok(words) => answer_of(0, 0, words, 0),
+            Err(ReadError::BadText { line }) => answer_of(15, 0, 0, line),
+            Err(ReadError::NoRoom) => answer_of(16, 0, 0, 0),
+        }
+    }
+}
+
+impl From<Result<u32, WriteError>> for TholdrimashAnswer {
+    ghost from_gives = { λ answer fields. (b : List ℕ) → told fields b ≡ write_says answer b };
+
+    fn from(answer: Result<u32, WriteError>) -> TholdrimashAnswer {
+        match answer {
+            Ok(bytes) => answer_of(0, 0, bytes, 0),
+            Err(WriteError::BadTable) => answer_of(2, 0, 0, 0),
+            Err(WriteError::NoRoom) => answer_of(16, 0, 0, 0),
+        }
+    }
+}
+
+impl From<Result<u32, FillError>> for TholdrimashAnswer {
+    ghost from_gives = { λ answer fields. (b : List ℕ) → told fields b ≡ fill_says answer b };
+
+    fn from(answer: Result<u32, FillError>) -> TholdrimashAnswer {
+        match answer {
+            Ok(words) => answer_of(0, 0, words, 0),
+            Err(FillError::BadLine { place }) => answer_of(3, 0, 0, place),
+            Err(FillError::BadRoom) => answer_of(18, 0, 0, 0),
+        }
+    }
+}
+
+impl From<Result<u32, ProgramError>> for TholdrimashAnswer {
+    ghost from_gives = { λ answer fields. (rows b : List ℕ) → told_whole fields rows b ≡ program_says answer rows b };
+
+    fn from(answer: Result<u32, ProgramError>) -> TholdrimashAnswer {
+        match answer {
+            Ok(used) => answer_of(0, 0, used, 0),
+            Err(ProgramError::BadTable) => answer_of(2, 0, 0, 0),
+            Err(ProgramError::BadProgram) => answer_of(17, 0, 0, 0),
+        }
     }
 }
 
@@ -85,7 +136,7 @@ pub fn tholdrimash_match(
     ensures answers { told result answer.new ≡ scan_call table.now line.now sheet.now budget base answer.old }
     ensures readings { Accepted table.now line.now sheet.now budget base → Within table.now line.now sheet.now budget → Demand3 (based base (scene_of table.now line.now sheet.now)) answer.old (told result answer.new) }
 {
-    fields(matcher::match_instr(table, line, sheet, budget, base, answer))
+    matcher::match_instr(table, line, sheet, budget, base, answer).into()
 }
 
 // Prefix lookup.
@@ -102,21 +153,21 @@ pub fn tholdrimash_lookup(
     ensures visits { Accepted table.now line.now sheet.now budget base → Within table.now line.now sheet.now budget → result.visits ≤ (scan_call table.now line.now sheet.now budget base answer.old).visits }
     ensures agrees { Accepted table.now line.now sheet.now budget base → Within table.now line.now sheet.now budget → (result.number ≡ (scan_call table.now line.now sheet.now budget base answer.old).number) × (result.words ≡ (scan_call table.now line.now sheet.now budget base answer.old).words) }
 {
-    fields(matcher::match_with_ruledef_map(table, line, sheet, budget, base, answer))
+    matcher::match_with_ruledef_map(table, line, sheet, budget, base, answer).into()
 }
 
-// Each case's number and count.
-fn chosen_fields(selection: Selection) -> TholdrimashSelection
+// Each answer's number and count. No `From`: it asks that the count fit 32 bits.
+fn chosen_fields(selection: Result<usize, SelectError>) -> TholdrimashSelection
     requires { (selection_says selection).1 ≤ 4096 }
     ensures { (result.number, result.count) ≡ selection_says selection }
 {
     match selection {
-        Selection::Chosen { count } => chosen_of(0, count),
-        Selection::BadList => chosen_of(10, 0),
-        Selection::NoneResolved => chosen_of(11, 0),
-        Selection::NoneKnown => chosen_of(12, 0),
-        Selection::Tied { count } => chosen_of(13, count),
-        Selection::NoRoom { count } => chosen_of(14, count),
+        Ok(count) => chosen_of(0, count),
+        Err(SelectError::BadList) => chosen_of(10, 0),
+        Err(SelectError::NoneResolved) => chosen_of(11, 0),
+        Err(SelectError::NoneKnown) => chosen_of(12, 0),
+        Err(SelectError::Tied { count }) => chosen_of(13, count),
+        Err(SelectError::NoRoom { count }) => chosen_of(14, count),
     }
 }
 
@@ -143,51 +194,18 @@ pub fn tholdrimash_select(
     chosen_fields(selection)
 }
 
-// Each case of reading as its number and fields.
-fn read_fields(answer: ReadAnswer) -> TholdrimashAnswer
-    ensures { (b : List ℕ) → told result b ≡ read_says answer b }
-{
-    match answer {
-        ReadAnswer::Read { words } => answer_of(0, 0, words, 0),
-        ReadAnswer::BadText { line } => answer_of(15, 0, 0, line),
-        ReadAnswer::NoRoom => answer_of(16, 0, 0, 0),
-    }
-}
-
 // A rule table from its listing.
 pub fn tholdrimash_read_table(text: &[u8], table: &mut [u16]) -> TholdrimashAnswer
     ensures answers { ReadCall text.now table.old (told result table.new) }
 {
-    read_fields(listing::reading::read_table(text, table))
-}
-
-// Each case of writing as its number and fields.
-fn write_fields(answer: WriteAnswer) -> TholdrimashAnswer
-    ensures { (b : List ℕ) → told result b ≡ write_says answer b }
-{
-    match answer {
-        WriteAnswer::Written { bytes } => answer_of(0, 0, bytes, 0),
-        WriteAnswer::BadTable => answer_of(2, 0, 0, 0),
-        WriteAnswer::NoRoom => answer_of(16, 0, 0, 0),
-    }
+    listing::reading::read_table(text, table).into()
 }
 
 // A rule table's listing.
 pub fn tholdrimash_write_table(table: &[u16], text: &mut [u8]) -> TholdrimashAnswer
     ensures answers { told result text.new ≡ write_call table.now text.old }
 {
-    write_fields(listing::writing::write_table(table, text))
-}
-
-// Each case of filling as its number and fields.
-fn fill_fields(answer: Filling) -> TholdrimashAnswer
-    ensures { (b : List ℕ) → told result b ≡ fill_says answer b }
-{
-    match answer {
-        Filling::Filled { words } => answer_of(0, 0, words, 0),
-        Filling::BadLine { place } => answer_of(3, 0, 0, place),
-        Filling::BadRoom => answer_of(18, 0, 0, 0),
-    }
+    listing::writing::write_table(table, text).into()
 }
 
 // The sheet of a line.
@@ -195,18 +213,7 @@ pub fn tholdrimash_fill_sheet(line: &[u8], sheet: &mut [u8]) -> TholdrimashAnswe
     ensures answers { FillCall line.now sheet.old (told result sheet.new) }
     ensures fits { FilledFits line.now (told result sheet.new) }
 {
-    fill_fields(expressions::fill_sheet(line, sheet))
-}
-
-// Each case of a program call as its number and fields.
-fn program_fields(answer: ProgramAnswer) -> TholdrimashAnswer
-    ensures { (rows b : List ℕ) → told_whole result rows b ≡ program_says answer rows b }
-{
-    match answer {
-        ProgramAnswer::Done { words } => answer_of(0, 0, words, 0),
-        ProgramAnswer::BadTable => answer_of(2, 0, 0, 0),
-        ProgramAnswer::BadProgram => answer_of(17, 0, 0, 0),
-    }
+    expressions::fill_sheet(line, sheet).into()
 }
 
 // A whole program by full scan.
@@ -223,7 +230,7 @@ pub fn tholdrimash_match_program(
     ensures answers { told_whole result rows.new answers.new ≡ scan_program table.now text.now ends.now sheets.now budgets.now bases.now rows.old answers.old }
     ensures readings { table_fits table.now ≡ true → program_fits (length text.now) ends.now (length sheets.now) (length budgets.now) (length bases.now) (length rows.old) ≡ true → ReadProgram table.now text.now ends.now sheets.now budgets.now bases.now answers.old (told_whole result rows.new answers.new) }
 {
-    program_fields(program::match_program(table, text, ends, sheets, budgets, bases, rows, answers))
+    program::match_program(table, text, ends, sheets, budgets, bases, rows, answers).into()
 }
 
 // A whole program by prefix lookup.
@@ -241,7 +248,5 @@ pub fn tholdrimash_lookup_program(
     ensures readings { table_fits table.now ≡ true → program_fits (length text.now) ends.now (length sheets.now) (length budgets.now) (length bases.now) (length rows.old) ≡ true → ReadProgram table.now text.now ends.now sheets.now budgets.now bases.now answers.old (told_whole result rows.new answers.new) }
     ensures agrees { AllWithin table.now (lines_of text.now ends.now sheets.now budgets.now bases.now) → (rows.new ≡ (scan_program table.now text.now ends.now sheets.now budgets.now bases.now rows.old answers.old).rows) × (result.words ≡ (scan_program table.now text.now ends.now sheets.now budgets.now bases.now rows.old answers.old).told.words) }
 {
-    program_fields(program::lookup_program(
-        table, text, ends, sheets, budgets, bases, rows, answers,
-    ))
+    program::lookup_program(table, text, ends, sheets, budgets, bases, rows, answers).into()
 }

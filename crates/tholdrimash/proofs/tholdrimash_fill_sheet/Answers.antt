@@ -3,4 +3,4 @@ use Rattle.tholdrimash.proofs.Said.{fills_of}
 use Rattle.tholdrimash.proofs.tholdrimash_fill_sheet.Goals as goal
 
 pub returns-clause-answers : goal.returns-clause-answers
-returns-clause-answers c = fills_of _ _ (c.fill_fields.ensures _) c.fill_sheet.ensures.answers
+returns-clause-answers c = fills_of _ _ (c.into.ensures _) c.fill_sheet.ensures.answers

@@ -3,4 +3,4 @@ use Rattle.tholdrimash.proofs.Said.{call-of}
 use Rattle.tholdrimash.proofs.tholdrimash_read_table.Goals as goal
 
 pub returns : goal.returns
-returns c = record { answers = call-of _ _ (c.read_fields.ensures _) c.read_table.ensures.answers }
+returns c = record { answers = call-of _ _ (c.into.ensures _) c.read_table.ensures.answers }
