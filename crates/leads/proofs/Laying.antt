@@ -2,7 +2,7 @@
 use mathlib.Core.Path.{◌≡◌, refl, sym, ap, subst, ◌∙◌}
 use mathlib.Core.Logic.{◌⊎◌, inl, inr, ⊎_elim}
 use mathlib.Core.List.{List}
-use Prim.Native.Nat.{ℕ, ◌+◌, ◌*◌, ◌≤◌, ◌<◌}
+use Prim.Native.Nat.{ℕ, ◌+◌, ◌≤◌, ◌<◌}
 use native.Mathlib.Decide.{ℕ_discrete}
 use native.Mathlib.Omega.{arith}
 use lib.ListN.{length, get_or, set}
@@ -11,7 +11,8 @@ use Rattle.defs.specs.Table.{parts_between, rule_span}
 use Rattle.std.specs.declared.ops.Range.{Range}
 use Rattle.defs.proofs.Words.{parts_whole, parts_within}
 use Rattle.ruledef_map.specs.RuledefMap.{rule_prefix}
-use Rattle.places.specs.Places.{PlacedAt}
+use Rattle.places.specs.declared.RulePlace.{RulePlace}
+use Rattle.places.specs.Places.{place_at}
 use Rattle.leads.specs.Leads.{key_of, key_at, LeadOf, Leads, Led, Among, Between}
 
 -- ---- a rule's number, by where its parts stand
@@ -20,14 +21,20 @@ pub span_key : (t : List ℕ) (i : ℕ) (parts : Range ℕ) {key : ℕ} → part
 unfolding key_at
 span_key t i parts span e = e ∙ ap (λ ps. key_of (rule_prefix ps)) (parts_whole t i parts span)
 
-module _ (t : List ℕ) {places : List ℕ} {i from to : ℕ} (placed : PlacedAt t places i) (begin : from ≡ get_or places (4 * i + 2) 0) (end : to ≡ get_or places (4 * i + 3) 0) where
-  pub part_end : to ≤ length t
-  part_end = omega (arith, end, placed.to, parts_within t i (rule_span t i) refl)
+module _ (t : List ℕ) (i : ℕ) {place : RulePlace} (is : place ≡ place_at t i) where
+  pub part_end : place.to ≤ length t
+  unfolding place_at
+  part_end = omega (arith, ap (λ (p : RulePlace). p.to) is, parts_within t i (rule_span t i) refl)
 
-  pub placed-key : {key : ℕ} → key ≡ key_of (rule_prefix (parts_between t from to)) → key ≡ key_at t i
-  placed-key e = span_key t i (rule_span t i) refl (rw (← placed.from, ← placed.to, ← begin, ← end) e)
+  pub placed-key : {key : ℕ} → key ≡ key_of (rule_prefix (parts_between t place.from place.to)) → key ≡ key_at t i
+  unfolding place_at
+  placed-key e = span_key t i (rule_span t i) refl (e ∙ ap (λ (p : RulePlace). key_of (rule_prefix (parts_between t p.from p.to))) is)
 
 -- ---- laying
+
+-- the first n rules of a list
+abbrev pub AmongFirst : List ℕ → ℕ → ℕ → Type 0
+AmongFirst rules n i = (j : ℕ) × (j < n) × (i ≡ get_or rules j 0)
 
 module _ {t : List ℕ} where
   pub led-none : {Of : ℕ → Type 0} (l : List ℕ) → ((i : ℕ) → Of i → ⊥) → Led t Of l l
@@ -59,12 +66,12 @@ module _ {t : List ℕ} where
 
   -- ---- a list of rules, and a run of them
 
-  pub among-more : (rules : List ℕ) {a b : List ℕ} {n key : ℕ} → Led t (Among rules n) a b → get_or rules n 0 < length b → key ≡ key_at t (get_or rules n 0) → Led t (Among rules (n + 1)) a (set b (get_or rules n 0) key)
+  pub among-more : (rules : List ℕ) {a b : List ℕ} {n key : ℕ} → Led t (AmongFirst rules n) a b → get_or rules n 0 < length b → key ≡ key_at t (get_or rules n 0) → Led t (AmongFirst rules (n + 1)) a (set b (get_or rules n 0) key)
   among-more rules {n = n} d h is =
       led-as (led-then d (led-one _ _ h is)) (λ i o. split i o (ℕ_discrete o.0 n))
       (λ i. ⊎_elim (λ o. (o.0, omega (arith, o.1), o.2)) (λ e. (n, omega arith, e)))
     where
-      split : (i : ℕ) (o : Among rules (n + 1) i) → Dec (o.0 ≡ n) → Among rules n i ⊎ (i ≡ get_or rules n 0)
+      split : (i : ℕ) (o : AmongFirst rules (n + 1) i) → Dec (o.0 ≡ n) → AmongFirst rules n i ⊎ (i ≡ get_or rules n 0)
       split i (j, l, e) (yes q) = inr (subst (λ (k : ℕ). i ≡ get_or rules k 0) q e)
       split i (j, l, e) (no ne) = inl (j, omega (arith, ne), e)
 
@@ -77,8 +84,8 @@ module _ {t : List ℕ} where
       split i o (yes q) = inr q
       split i o (no ne) = inl (o.0, omega (arith, o.1, ne))
 
-  pub led-counted : (rules : List ℕ) {a b : List ℕ} {i n : ℕ} → Led t (Among rules i) a b → i ≡ n → Led t (Among rules n) a b
-  led-counted rules {a} {b} d e = subst (λ (k : ℕ). Led t (Among rules k) a b) e d
+  pub among-all : (rules : List ℕ) {a b : List ℕ} {i : ℕ} → Led t (AmongFirst rules i) a b → i ≡ length rules → Led t (Among rules) a b
+  among-all rules {a} {b} d e = subst (λ (k : ℕ). Led t (AmongFirst rules k) a b) e d
 
   pub between-all : {a b : List ℕ} {from n to : ℕ} → Led t (Between from n) a b → n ≡ to → Led t (Between from to) a b
   between-all {a} {b} {from} d e = subst (λ (k : ℕ). Led t (Between from k) a b) e d

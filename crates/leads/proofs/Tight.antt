@@ -28,7 +28,7 @@ pub led-same : {t : List ℕ} {Of : ℕ → Type 0} {before a b : List ℕ} → 
 led-same x y i =
     ⊎_elim (λ o. x.here i o ∙ sym (y.here i o)) (λ e. ⊎_elim (λ o. x.here i o ∙ sym (y.here i o)) (λ f. e ∙ sym f) (y.others i)) (x.others i)
 
-pub lead_listed-tight : (κs a r s x y : _) → lead-listed.Post κs a r x → lead-listed.Post κs a s y → (i : ℕ) → ◌≡◌ {A = ℕ} (get_or x.1.1.1.1.0.now i 0) (get_or y.1.1.1.1.0.now i 0)
+pub lead_listed-tight : (κs a r s x y : _) → lead-listed.Post κs a r x → lead-listed.Post κs a s y → (i : ℕ) → ◌≡◌ {A = ℕ} (get_or x.1.1.1.0.now i 0) (get_or y.1.1.1.0.now i 0)
 lead_listed-tight κs a r s x y = led-same
 
 pub lead_nested-tight : (κs a r s x y : _) → lead-nested.Post κs a r x → lead-nested.Post κs a s y → (i : ℕ) → ◌≡◌ {A = ℕ} (get_or x.1.1.0.now i 0) (get_or y.1.1.0.now i 0)

@@ -5,6 +5,7 @@ use Rattle.defs.specs.Table.{table_fits, records_in, rule_parts}
 use Rattle.defs.specs.Ruledef.{starts_of, is_top_rule}
 use Rattle.ruledef_map.specs.RuledefMap.{rule_prefix}
 use Rattle.readings.specs.Fail.{ahead}
+use Rattle.places.specs.declared.RulePlace.{RulePlace}
 use Rattle.places.specs.Places.{Placed}
 
 -- a prefix as one number: four bytes, the first weighs most, a missing byte is 0
@@ -57,9 +58,9 @@ pub record Led (t : List ℕ) (Of : ℕ → Type 0) (before after : List ℕ) : 
   pub here : (i : ℕ) → Of i → get_or after i 0 ≡ key_at t i
   pub others : (i : ℕ) → Of i ⊎ (get_or after i 0 ≡ get_or before i 0)
 
--- the first n rules of a list; the rules of the table from one place to before another; those of no top ruleset
-abbrev pub Among : List ℕ → ℕ → ℕ → Type 0
-Among rules n i = (j : ℕ) × (j < n) × (i ≡ get_or rules j 0)
+-- the rules of a list; the rules of the table from one place to before another; those of no top ruleset
+abbrev pub Among : List ℕ → ℕ → Type 0
+Among rules i = (j : ℕ) × (j < length rules) × (i ≡ get_or rules j 0)
 
 abbrev pub Between : ℕ → ℕ → ℕ → Type 0
 Between from to i = (from ≤ i) × (i < to)
@@ -68,11 +69,10 @@ abbrev pub Nested : List ℕ → ℕ → Type 0
 Nested t i = (i < records_in t) × (is_top_rule t i ≡ false)
 
 -- what leading listed rules asks: rules that are prepared, and room
-pub record ListAsked (t places rules leads : List ℕ) (n : ℕ) : Type 0 where
+pub record ListAsked (t : List ℕ) (places : List RulePlace) (rules leads : List ℕ) : Type 0 where
   pub table : table_fits t ≡ true
-  pub fits : n ≤ length rules
-  pub below : (j : ℕ) → j < n → get_or rules j 0 < records_in t
-  pub placed : Placed t places rules n
+  pub below : (j : ℕ) → j < length rules → get_or rules j 0 < records_in t
+  pub placed : Placed t places rules
   pub room : length leads ≡ 512
 
 -- what leading nested rules asks

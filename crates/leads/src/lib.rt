@@ -12,7 +12,7 @@ ghost use Rattle.readings.specs.Fail.{ahead};
 ghost use Rattle.leads.specs.Leads.{key_of, ahead_of, failing_of, Led, Among, Between, Nested, ListAsked, NestAsked};
 
 use defs::ruledef;
-use places;
+use places::RulePlace;
 use syntax::walker::Walker;
 use useful;
 
@@ -134,18 +134,13 @@ pub fn failing_visits(rule: u32, ahead: Option<u32>) -> Option<usize>
 }
 
 // Lays the leads of the listed rules, which are prepared.
-pub fn lead_listed(table: &[u16], places: &[u16], rules: &[u16], count: usize, leads: &mut [u32])
-    requires { ListAsked table.now places.now rules.now leads.old count }
-    ensures answers { Led table.now (Among rules.now count) leads.old leads.new }
+pub fn lead_listed(table: &[u16], places: &[RulePlace], rules: &[u16], leads: &mut [u32])
+    requires { ListAsked table.now places.now rules.now leads.old }
+    ensures answers { Led table.now (Among rules.now) leads.old leads.new }
 {
-    let mut i = 0;
-    while i < count {
-        let rule = rules[i] as usize;
-        i += 1;
-        let words = places::WORDS * rule;
-        let from = places[words + places::FROM] as usize;
-        let to = places[words + places::TO] as usize;
-        leads[rule] = prefix_key(table, from, to) as u32;
+    for &rule in rules {
+        let place = places[rule as usize];
+        leads[rule as usize] = prefix_key(table, place.from as usize, place.to as usize) as u32;
     }
 }
 

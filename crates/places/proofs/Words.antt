@@ -1,9 +1,8 @@
--- The four words of a rule: each fits 16 bits in an accepted table, and laying one rule's words leaves the words of every
--- other rule as they were, since four times two different places lie at least four apart.
+-- A rule's place: its fields fit 16 bits in an accepted table, and preparing one rule leaves every other as it was.
 use mathlib.Core.Path.{◌≡◌, sym, ap, subst, ◌∙◌}
 use mathlib.Core.Bool.{true}
 use mathlib.Core.List.{List, []}
-use Prim.Native.Nat.{ℕ, ◌+◌, ◌*◌, ◌-◌, ◌≤◌, ◌<◌}
+use Prim.Native.Nat.{ℕ, ◌+◌, ◌-◌, ◌≤◌, ◌<◌}
 use native.Mathlib.Decide.{ℕ_discrete}
 use native.Mathlib.Omega.{arith}
 use lib.ListN.{length, get_or, set, length-set}
@@ -16,7 +15,8 @@ use Rattle.defs.specs.Ruledef.{begins_at, starts_of}
 use Rattle.std.specs.declared.ops.Range.{Range}
 use Rattle.defs.proofs.Fits.{sizes-bound}
 use Rattle.readings.proofs.Records.{pair-within, few-records, span-within}
-use Rattle.places.specs.Places.{PlacedAt, Placed, Laid}
+use Rattle.places.specs.declared.RulePlace.{RulePlace}
+use Rattle.places.specs.Places.{place_at, PlacedAt, Placed, PlaceAsked}
 
 -- an accepted table has at most 9,763 words
 pub table-short : (t : List ℕ) → table_fits t ≡ true → length t ≤ 9763
@@ -59,92 +59,42 @@ module _ (t starts : List ℕ) (ok : table_fits t ≡ true) (begins : starts ≡
         to = omega (arith, sp.within, table-short t ok);
       }
 
--- ---- laying
+  -- the fields that the code puts together are the rule's
+  pub place-is : ◌≡◌ {A = RulePlace} (record { set = group; number = i - get_or starts group 0; from = parts.start; to = parts.end }) (place_at t i)
+  unfolding place_at
+  place-is =
+      let number : i - get_or starts group 0 ≡ i - begins_at t (ruleset_at t i) = ap (λ (b : ℕ). i - b) (small.begins ∙ ap (begins_at t) group-is) in
+      λ k. record { set = group-is k; number = number k; from = (span k).start; to = (span k).end }
 
--- a rule's words stand within
-pub word-within : (p : List ℕ) (i k : ℕ) → length p ≡ 2048 → i < 512 → k < 4 → 4 * i + k < length p
-word-within p i k e h l = omega arith
+-- the rules passed are prepared
+pub record PlacedTo (t : List ℕ) (places : List RulePlace) (rules : List ℕ) (i : ℕ) : Type 0 where
+  pub sized : length places ≡ 512
+  pub each : (j : ℕ) → j < i → PlacedAt t places (get_or rules j 0)
 
-module _ (p : List ℕ) (i a b c d : ℕ) where
-  abbrev pub laid_in : List ℕ
-  laid_in = set (set (set (set p (4 * i) a) (4 * i + 1) b) (4 * i + 2) c) (4 * i + 3) d
+module _ {t starts rules : List ℕ} {places₀ : List RulePlace} (asked : PlaceAsked t starts rules places₀) where
+  pub placed-none : PlacedTo t places₀ rules 0
+  placed-none = record { sized = asked.sized; each = λ j l. absurd (omega arith) }
 
-  apart : (k : ℕ) → (k ≡ 4 * i → ⊥) → (k ≡ 4 * i + 1 → ⊥) → (k ≡ 4 * i + 2 → ⊥) → (k ≡ 4 * i + 3 → ⊥) → get_or laid_in k 0 ≡ get_or p k 0
-  apart k e f g h =
-      get_or-set_other (set (set (set p (4 * i) a) (4 * i + 1) b) (4 * i + 2) c) (4 * i + 3) k d 0 h
-      ∙ get_or-set_other (set (set p (4 * i) a) (4 * i + 1) b) (4 * i + 2) k c 0 g
-      ∙ get_or-set_other (set p (4 * i) a) (4 * i + 1) k b 0 f
-      ∙ get_or-set_other p (4 * i) k a 0 e
+  pub placed-room : (j : ℕ) → j < length rules → get_or rules j 0 < 512
+  placed-room j l = omega (arith, asked.below j l, few-records t [] [] asked.table)
 
-  module _ (room : 4 * i + 3 < length p) where
-    first : get_or laid_in (4 * i) 0 ≡ a
-    first =
-        get_or-set_other (set (set (set p (4 * i) a) (4 * i + 1) b) (4 * i + 2) c) (4 * i + 3) (4 * i) d 0 (λ e. omega arith)
-        ∙ get_or-set_other (set (set p (4 * i) a) (4 * i + 1) b) (4 * i + 2) (4 * i) c 0 (λ e. omega arith)
-        ∙ get_or-set_other (set p (4 * i) a) (4 * i + 1) (4 * i) b 0 (λ e. omega arith)
-        ∙ get_or-set_same p (4 * i) a 0 (omega arith)
+  module _ {places : List RulePlace} {i : ℕ} (before : PlacedTo t places rules i) where
+    pub placed-turn : i < length rules → {place : RulePlace} → place ≡ place_at t (get_or rules i 0) → PlacedTo t (set places (get_or rules i 0) place) rules (i + 1)
+    placed-turn h {place} is = record {
+      sized = simp length-set before.sized;
+      each = λ j l. record { is = λ other. by j l other (ℕ_discrete (get_or rules j 0) (get_or rules i 0)) (ℕ_discrete j i) };
+    }
+      where
+        there : get_or rules i 0 < length places
+        there = omega (arith, placed-room i h, before.sized)
 
-    second : get_or laid_in (4 * i + 1) 0 ≡ b
-    second =
-        get_or-set_other (set (set (set p (4 * i) a) (4 * i + 1) b) (4 * i + 2) c) (4 * i + 3) (4 * i + 1) d 0 (λ e. omega arith)
-        ∙ get_or-set_other (set (set p (4 * i) a) (4 * i + 1) b) (4 * i + 2) (4 * i + 1) c 0 (λ e. omega arith)
-        ∙ get_or-set_same (set p (4 * i) a) (4 * i + 1) b 0 (omega (arith, length-set p (4 * i) a))
+        by :
+            (j : ℕ) → j < i + 1 → (other : RulePlace) → Dec (get_or rules j 0 ≡ get_or rules i 0) → Dec (j ≡ i) →
+            get_or (set places (get_or rules i 0) place) (get_or rules j 0) other ≡ place_at t (get_or rules j 0)
+        by j l other (yes e) d = rw e (get_or-set_same places (get_or rules i 0) place other there ∙ is)
+        by j l other (no n) (yes e) = absurd (n (ap (λ (k : ℕ). get_or rules k 0) e))
+        by j l other (no n) (no d) =
+            get_or-set_other places (get_or rules i 0) (get_or rules j 0) place other n ∙ (before.each j (omega (arith, d))).is other
 
-    third : get_or laid_in (4 * i + 2) 0 ≡ c
-    third =
-        get_or-set_other (set (set (set p (4 * i) a) (4 * i + 1) b) (4 * i + 2) c) (4 * i + 3) (4 * i + 2) d 0 (λ e. omega arith)
-        ∙ get_or-set_same (set (set p (4 * i) a) (4 * i + 1) b) (4 * i + 2) c 0 (omega (arith, length-set p (4 * i) a, length-set (set p (4 * i) a) (4 * i + 1) b))
-
-    fourth : get_or laid_in (4 * i + 3) 0 ≡ d
-    fourth =
-        get_or-set_same (set (set (set p (4 * i) a) (4 * i + 1) b) (4 * i + 2) c) (4 * i + 3) d 0
-        (omega (arith, length-set p (4 * i) a, length-set (set p (4 * i) a) (4 * i + 1) b, length-set (set (set p (4 * i) a) (4 * i + 1) b) (4 * i + 2) c))
-
-module _ {t starts : List ℕ} {i group : ℕ} {parts : Range ℕ} (group-is : group ≡ ruleset_at t i) (span : parts ≡ rule_span t i) (fine : Small t starts i group parts) (p : List ℕ) (sized : length p ≡ 2048) where
-  abbrev after : List ℕ
-  after = laid_in p i group (i - get_or starts group 0) parts.start parts.end
-
-  here : PlacedAt t after i
-  here =
-      let room : 4 * i + 3 < length p = omega (arith, fine.rule) in
-      record {
-        set = first p i group (i - get_or starts group 0) parts.start parts.end room ∙ group-is;
-        number = second p i group (i - get_or starts group 0) parts.start parts.end room ∙ ap (λ (b : ℕ). i - b) (fine.begins ∙ ap (begins_at t) group-is);
-        from = third p i group (i - get_or starts group 0) parts.start parts.end room ∙ ap (λ (x : Range ℕ). x.start) span;
-        to = fourth p i group (i - get_or starts group 0) parts.start parts.end room ∙ ap (λ (x : Range ℕ). x.end) span;
-      }
-
-  others : (k : ℕ) → PlacedAt t p k → PlacedAt t after k
-  others k was = by (ℕ_discrete k i)
-    where
-      by : Dec (k ≡ i) → PlacedAt t after k
-      by (yes e) = subst (PlacedAt t after) (sym e) here
-      by (no ne) = record {
-        set = apart p i group (i - get_or starts group 0) parts.start parts.end (4 * k) (λ e. ne (omega arith)) (λ e. omega arith) (λ e. omega arith) (λ e. omega arith) ∙ was.set;
-        number = apart p i group (i - get_or starts group 0) parts.start parts.end (4 * k + 1) (λ e. omega arith) (λ e. ne (omega arith)) (λ e. omega arith) (λ e. omega arith) ∙ was.number;
-        from = apart p i group (i - get_or starts group 0) parts.start parts.end (4 * k + 2) (λ e. omega arith) (λ e. omega arith) (λ e. ne (omega arith)) (λ e. omega arith) ∙ was.from;
-        to = apart p i group (i - get_or starts group 0) parts.start parts.end (4 * k + 3) (λ e. omega arith) (λ e. omega arith) (λ e. omega arith) (λ e. ne (omega arith)) ∙ was.to;
-      }
-
-  pub laid : Laid t p i after
-  laid = record { here = here; others = others }
-
--- ---- a list of rules, one after another
-
--- the first n rules of the list are prepared
-module _ {t rules p : List ℕ} where
-  pub placed-none : length p ≡ 2048 → Placed t p rules 0
-  placed-none e = record { sized = e; each = λ j h. absurd (omega arith) }
-
-  pub placed-more : {n : ℕ} → Placed t p rules n → (i : ℕ) → i ≡ get_or rules n 0 → (p' : List ℕ) → Laid t p i p' → length p' ≡ length p → Placed t p' rules (n + 1)
-  placed-more {n} done i is p' more e = record {
-    sized = omega (arith, e, done.sized);
-    each = λ j h. by j h (ℕ_discrete j n);
-  }
-    where
-      by : (j : ℕ) → j < n + 1 → Dec (j ≡ n) → PlacedAt t p' (get_or rules j 0)
-      by j h (yes q) = subst (PlacedAt t p') (is ∙ ap (λ (k : ℕ). get_or rules k 0) (sym q)) more.here
-      by j h (no ne) = more.others (get_or rules j 0) (done.each j (omega (arith, ne)))
-
-  pub placed-fewer : {n : ℕ} (m : ℕ) → Placed t p rules n → m ≤ n → Placed t p rules m
-  placed-fewer m done h = record { sized = done.sized; each = λ j k. done.each j (omega arith) }
+    pub placed-all : length rules ≤ i → Placed t places rules
+    placed-all h = record { sized = before.sized; each = λ j l. before.each j (omega arith) }

@@ -3,51 +3,54 @@
 // that beginning a rule needs. Nothing is refused: the table is an accepted one.
 #![tactic(auto)]
 
-ghost use Rattle.std.specs.Prelude.{◌≡◌, true, ◌<◌, length};
+ghost use Rattle.std.specs.Prelude.{◌≡◌, true, ◌<◌};
 ghost use Rattle.defs.specs.Table.{table_fits, records_in};
 ghost use Rattle.defs.specs.Ruledef.{starts_of};
-ghost use Rattle.places.specs.Places.{PlaceAsked, Placed, Laid};
+ghost use Rattle.places.specs.Places.{place_at, PlaceAsked, Placed};
 
 use defs::ruledef;
 
-// A rule's words stand from four times its place in the table on: its ruleset, then these.
-pub const WORDS: usize = 4;
+// Where a rule stands: its ruleset, its number there, and where its part words begin and end. They are words of 16 bits, since
+// a call keeps one for each of 512 rules.
+#[derive(Clone, Copy)]
+pub struct RulePlace {
+    pub set: u16,
+    pub number: u16,
+    pub from: u16,
+    pub to: u16,
+}
 
-pub const NUMBER: usize = 1;
+// The places of as many rules as a table may have, none of them prepared.
+pub const NONE: [RulePlace; ruledef::MOST_RULES] = [RulePlace {
+    set: 0,
+    number: 0,
+    from: 0,
+    to: 0,
+}; ruledef::MOST_RULES];
 
-pub const FROM: usize = 2;
-
-pub const TO: usize = 3;
-
-// The words of as many rules as a table may have.
-pub const ROOM: usize = WORDS * ruledef::MOST_RULES;
-
-// Lays one rule's words.
-fn place_rule(table: &[u16], starts: &[u16], rule: u16, places: &mut [u16])
+// One rule's place.
+fn place_of(table: &[u16], starts: &[u16], rule: u16) -> RulePlace
     requires table_value { table_fits table.now ≡ true }
     requires starts_value { starts.now ≡ starts_of table.now }
     requires rule_bound { rule < records_in table.now }
-    requires places_len { length places.old ≡ 2048 }
-    ensures { Laid table.now places.old rule places.new }
+    ensures { result ≡ place_at table.now rule }
 {
     let set = ruledef::ruleset_of(table, rule);
     let parts = ruledef::parts_of(table, rule);
-    let at = WORDS * (rule as usize);
-    places[at] = set as u16;
-    places[at + NUMBER] = rule - starts[set];
-    places[at + FROM] = parts.start as u16;
-    places[at + TO] = parts.end as u16;
+    RulePlace {
+        set: set as u16,
+        number: rule - starts[set],
+        from: parts.start as u16,
+        to: parts.end as u16,
+    }
 }
 
 // Prepares the rules of a list.
-pub fn place_rules(table: &[u16], starts: &[u16], rules: &[u16], count: usize, places: &mut [u16])
-    requires { PlaceAsked table.now starts.now rules.now places.old count }
-    ensures answers { Placed table.now places.new rules.now count }
+pub fn place_rules(table: &[u16], starts: &[u16], rules: &[u16], places: &mut [RulePlace])
+    requires { PlaceAsked table.now starts.now rules.now places.old }
+    ensures answers { Placed table.now places.new rules.now }
 {
-    let mut i = 0;
-    while i < count {
-        let rule = rules[i];
-        i += 1;
-        place_rule(table, starts, rule, places);
+    for &rule in rules {
+        places[rule as usize] = place_of(table, starts, rule);
     }
 }

@@ -8,8 +8,8 @@ use Prim.Native.Nat.{ℕ, zero, suc, ◌+◌, ◌*◌, ◌/◌, ◌%◌, ◌≤�
 use native.Mathlib.Numerals.{add-one}
 use native.Mathlib.Omega.{arith}
 use lib.Dec.{eqb, leb}
-use lib.ListN.{length, get_or, take, drop, set}
-use lib.Seq.{take_at, take-suc-set, length-take-le, get_or-take}
+use lib.ListN.{length, get_or, take, set}
+use lib.Seq.{take_all, take-suc-set}
 use borrow.Author.Tests.{leb-true, le-leb}
 use Rattle.plain.specs.Choice.{select}
 use Rattle.plain.specs.Lists.{range, keep_if, every}
@@ -19,10 +19,11 @@ use Rattle.defs.specs.Table.{table_fits, records_in, rule_parts}
 use Rattle.ruledef_map.specs.RuledefMap.{rule_prefix, top_rules, with_prefix, same_bytes}
 use Rattle.sorting.specs.Ascending.{ascending, in_order}
 use Rattle.ruledef_map.proofs.Orders.{same-eq}
-use Rattle.readings.proofs.Records.{kept_map, top_below, few-records, top-many}
-use Rattle.sorting.proofs.Insertions.{every-none, every-cons, every-head, every-tail, ascending-length, ascending-ordered, kept-ascending, order-none, order-cons, order-head, order-tail, every-kept}
+use Rattle.readings.proofs.Records.{kept_map, top_below, few-records}
+use Rattle.sorting.proofs.Insertions.{every-none, every-cons, every-head, every-tail, ascending-ordered, kept-ascending, order-none, order-cons, order-head, order-tail, every-kept}
 use Rattle.sorting.proofs.Members.{member-at}
 use Rattle.leads.specs.Leads.{key_of, key_at}
+use Rattle.places.specs.declared.RulePlace.{RulePlace}
 use Rattle.prefix_order.specs.PrefixOrder.{entry_of, entries, rules_with, LayAsked, OrderAsked}
 use Rattle.leads.proofs.Keys.{is_byte, same_key}
 use Rattle.leads.proofs.Bytes.{rule-bytes, rule-short}
@@ -45,8 +46,8 @@ module _ (t : List ℕ) where
           (ap₂ (λ (f : List ℕ) (e : ℕ). f ++ (e ∷ [])) before.laid is);
     }
 
-    pub laying-all : {n : ℕ} → i ≡ n → take n order ≡ map (entry_of t) (take n rules)
-    laying-all e = rw (← e) before.laid
+    pub laying-all : length rules ≤ i → length order ≡ length rules → order ≡ map (entry_of t) rules
+    laying-all h e = sym (take_all i order (omega (arith, e))) ∙ before.laid ∙ ap (map (entry_of t)) (take_all i rules h)
 
   pub entry-is : (i : ℕ) {key : ℕ} → key ≡ key_at t i → key * 512 + i ≡ entry_of t i
   unfolding entry_of key_at
@@ -54,32 +55,20 @@ module _ (t : List ℕ) where
 
 -- ---- sorting them
 
-module _ {t places rules order spare : List ℕ} {n : ℕ} (asked : OrderAsked t places rules order spare n) where
-  top_count : length (top_rules t) ≡ n
-  top_count = ap length (sym asked.top) ∙ length-take-le n rules asked.fits
-
-  pub few-asked : n ≤ 512
-  few-asked = omega (arith, top_count, top-many t [] [] asked.table)
-
-  pub lay-asked : LayAsked t places rules order n
+module _ {t rules order spare : List ℕ} {places : List RulePlace} (asked : OrderAsked t places rules order spare) where
+  pub lay-asked : LayAsked t places rules order
   lay-asked = record {
-    fits = asked.fits;
     small = λ j l.
-        let at : get_or (top_rules t) j 0 ≡ get_or rules j 0 = ap (λ (k : List ℕ). get_or k j 0) (sym asked.top) ∙ get_or-take n rules j 0 l in
-        omega (arith, at, top_below t [] [] asked.table (member-at (top_rules t) j (omega (arith, top_count))), few-records t [] [] asked.table);
+        let at : get_or (top_rules t) j 0 ≡ get_or rules j 0 = ap (λ (k : List ℕ). get_or k j 0) (sym asked.top) in
+        omega (arith, at, top_below t [] [] asked.table (member-at (top_rules t) j (omega (arith, ap length asked.top))), few-records t [] [] asked.table);
     placed = asked.placed;
-    room = omega (arith, few-asked, asked.room);
+    room = asked.room;
   }
 
   -- the entries that were laid, sorted where they stand
-  pub sorted_all :
-      (laid : List ℕ) {sorted : List ℕ} → n ≤ length laid → take n laid ≡ map (entry_of t) (take n rules) →
-      sorted ≡ ascending (take n laid) → take n (sorted ++ drop n laid) ≡ entries t
+  pub sorted_all : {laid sorted : List ℕ} → laid ≡ map (entry_of t) rules → sorted ≡ ascending laid → sorted ≡ entries t
   unfolding entries
-  sorted_all laid {sorted} l e is =
-      take_at sorted (drop n laid) n (ap length is ∙ ascending-length (take n laid) ∙ length-take-le n laid l)
-      ∙ is
-      ∙ ap ascending (e ∙ ap (map (entry_of t)) asked.top)
+  sorted_all e is = is ∙ ap ascending (e ∙ ap (map (entry_of t)) asked.top)
 
 -- ---- the entries of a key
 

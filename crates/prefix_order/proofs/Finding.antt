@@ -103,7 +103,7 @@ pub record Sought (t es p : List ℕ) (size key weight end found : ℕ) (now : L
 passed-more : {es : List ℕ} {bound greater at : ℕ} → Passed es bound at → bound ≤ greater → Passed es greater at
 passed-more passed l = record { within = passed.within; below = λ k m. omega (arith, passed.below k m) }
 
-module _ {t order line buffer : List ℕ} {n : ℕ} (asked : FindAsked t order line buffer n) where
+module _ {t order line buffer : List ℕ} (asked : FindAsked t order line buffer) where
   p : List ℕ
   p = line_prefix line
 
@@ -112,14 +112,14 @@ module _ {t order line buffer : List ℕ} {n : ℕ} (asked : FindAsked t order l
   few-found = found-many t [] [] asked.table (line_prefix line) (line-short line)
 
   -- the entries of a prefix's key
-  run_is : (size : ℕ) → rules_with (key_of (take size p)) (take n order) ≡ with_prefix (rule_parts t) (top_rules t) (take size p)
+  run_is : (size : ℕ) → rules_with (key_of (take size p)) order ≡ with_prefix (rule_parts t) (top_rules t) (take size p)
   unfolding p
   run_is size =
       ap (rules_with (key_of (take size p))) asked.ordered
       ∙ entries_with t asked.table (take size p) (every_take is_byte size p (line-bytes line asked.good)) (omega (arith, length-take size p, line-short line))
 
   -- the first run is of the empty prefix
-  pub seeking-none : Seeking t (take n order) (line_prefix line) 0 0 16777216 0 0 buffer
+  pub seeking-none : Seeking t order (line_prefix line) 0 0 16777216 0 0 buffer
   seeking-none = record {
     inside = omega arith;
     written = finding-none t (line_prefix line) asked.room;
@@ -130,16 +130,16 @@ module _ {t order line buffer : List ℕ} {n : ℕ} (asked : FindAsked t order l
   module _
       {size key weight begin found : ℕ}
       {now : List ℕ}
-      (before : Seeking t (take n order) (line_prefix line) size key weight begin found now)
+      (before : Seeking t order (line_prefix line) size key weight begin found now)
     where
-      this-run : rules_with key (take n order) ≡ with_prefix (rule_parts t) (top_rules t) (take size p)
+      this-run : rules_with key order ≡ with_prefix (rule_parts t) (top_rules t) (take size p)
       unfolding p
-      this-run = ap (λ (k : ℕ). rules_with k (take n order)) before.keyed.is ∙ run_is size
+      this-run = ap (λ (k : ℕ). rules_with k order) before.keyed.is ∙ run_is size
 
       pub seeking-small : key < 4294967296
       seeking-small = keyed-small (line-bytes line asked.good) before.keyed
 
-      pub seeking-asked : RunAsked (take n order) now key begin found
+      pub seeking-asked : RunAsked order now key begin found
       unfolding entries p
       seeking-asked = record {
         ordered = ap in_order asked.ordered ∙ ascending-order _;
@@ -151,20 +151,20 @@ module _ {t order line buffer : List ℕ} {n : ℕ} (asked : FindAsked t order l
 
       pub seeking-done :
           {end found' : ℕ} {now' : List ℕ} → length now' ≡ length now →
-          RunLeft (take n order) now key found end found' now' →
-          Sought t (take n order) (line_prefix line) size key weight end found' now'
+          RunLeft order now key found end found' now' →
+          Sought t order (line_prefix line) size key weight end found' now'
       unfolding p
       seeking-done long' left =
-          let next : below t p size ++ rules_with key (take n order) ≡ below t p (size + 1) = ap (λ (ws : List ℕ). below t p size ++ ws) this-run ∙ sym (below_more t p size) in
+          let next : below t p size ++ rules_with key order ≡ below t p (size + 1) = ap (λ (ws : List ℕ). below t p size ++ ws) this-run ∙ sym (below_more t p size) in
           record {
             written = record {
               within = omega (arith, before.inside);
               long = long' ∙ before.written.long;
               many =
-                  omega (arith, put-end found (rules_with key (take n order)) now left.written, before.written.many, length-append (below t p size) (rules_with key (take n order)), ap length next);
+                  omega (arith, put-end found (rules_with key order) now left.written, before.written.many, length-append (below t p size) (rules_with key order), ap length next);
               is =
-                  put-taken found (rules_with key (take n order)) now (omega (arith, before.written.many, below-few t p size before.written.within, few-found, before.written.long)) left.written
-                  ∙ ap (λ (ws : List ℕ). ws ++ rules_with key (take n order)) before.written.is
+                  put-taken found (rules_with key order) now (omega (arith, before.written.many, below-few t p size before.written.within, few-found, before.written.long)) left.written
+                  ∙ ap (λ (ws : List ℕ). ws ++ rules_with key order) before.written.is
                   ∙ next;
             };
             keyed = before.keyed;
@@ -175,7 +175,7 @@ module _ {t order line buffer : List ℕ} {n : ℕ} (asked : FindAsked t order l
       {held : Prefix}
       {size key weight end found : ℕ}
       {now : List ℕ}
-      (before : Sought t (take n order) (line_prefix line) size key weight end found now)
+      (before : Sought t order (line_prefix line) size key weight end found now)
       (is : held ≡ held_prefix (line_prefix line))
     where
       module _ (more : size < held.count) where
@@ -197,7 +197,7 @@ module _ {t order line buffer : List ℕ} {n : ℕ} (asked : FindAsked t order l
 
         -- the next run is of a greater key
         pub sought-next :
-            Seeking t (take n order) (line_prefix line) (size + 1) (key + get_or held.bytes size 0 * weight) (weight / 256) end found now
+            Seeking t order (line_prefix line) (size + 1) (key + get_or held.bytes size 0 * weight) (weight / 256) end found now
         sought-next = record {
           inside = omega (arith, next-inside);
           written = before.written;

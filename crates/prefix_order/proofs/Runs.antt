@@ -1,16 +1,19 @@
 -- A run of ordered entries. Bisection brackets its first place, since an entry settles all on one side of it; from there on the
 -- entries of a key come first, and after the first of another key there is none, so that what a loop takes up to there is all
 -- that the test keeps of the whole order.
-use mathlib.Core.Path.{◌≡◌, refl, sym, ap, ◌∙◌}
-use mathlib.Core.Bool.{Bool, true}
+use mathlib.Core.Path.{◌≡◌, refl, sym, ap, subst, ◌∙◌}
+use mathlib.Core.Bool.{Bool, true, false}
 use mathlib.Core.List.{List, [], ◌∷◌, ◌++◌, map, map-append, append-nil}
-use Prim.Native.Nat.{ℕ, suc, ◌+◌, ◌*◌, ◌/◌, ◌%◌, ◌≤◌, ◌<◌}
+use Prim.Native.Nat.{ℕ, suc, ◌+◌, ◌-◌, ◌*◌, ◌/◌, ◌%◌, ◌≤◌, ◌<◌}
+use native.Mathlib.Decide.{dec_le}
 use native.Mathlib.Numerals.{add-one}
 use native.Mathlib.Omega.{arith}
-use lib.Dec.{eqb}
+use lib.Dec.{eqb, ltb}
 use lib.ListN.{length, get_or, take, drop, set, length-append, length-take, length-drop, length-set, take-append-drop}
 use lib.Seq.{take_all, take-suc, get_or-take, get_or-drop, set_split, append_snoc}
-use borrow.Author.Tests.{eq-eqb, ne_eqb}
+use borrow.Author.Tests.{eq-eqb, ne_eqb, ltb-true, ltb-false}
+use Rattle.std.specs.List.Sorted.{IsPartitionedBy, IsPartitionPoint}
+use Rattle.std.proofs.lemmas.List.Sorted.{IsPartitionedBy-ltb, IsNonDecreasingBy-drop, IsNonDecreasingBy-from_default}
 use Rattle.plain.specs.Buffers.{put_after}
 use Rattle.plain.specs.Lists.{keep_if}
 use Rattle.plain.proofs.Buffers.{put-none, put-end, put-more}
@@ -59,6 +62,39 @@ module _ {es : List ℕ} {bound low high : ℕ} (before : Bracket es bound low h
     passed = record { within = omega (arith, before.ordered, before.within); below = before.below };
     from = λ k m n. before.from k (omega arith) n;
   }
+
+-- ordered entries are parted by a bound, from any place on
+pub order-parted : (es : List ℕ) (bound from : ℕ) {xs : List ℕ} → xs ≡ drop from es → in_order es ≡ true → IsPartitionedBy (λ e. ltb e bound) xs
+order-parted es bound from is sorted =
+    subst (IsPartitionedBy (λ e. ltb e bound)) (sym is)
+    (IsPartitionedBy-ltb (λ e. e) (drop from es) bound
+    (IsNonDecreasingBy-drop (λ e. e) from es (IsNonDecreasingBy-from_default (λ e. e) es 0 (λ i j l h. order-at es sorted i j l h))))
+
+parted-after :
+    {es : List ℕ} {bound from r : ℕ} → in_order es ≡ true → from < length es → get_or es from 0 < bound → r ≤ length (drop (from + 1) es) →
+    IsPartitionPoint (λ e. ltb e bound ≡ true) (λ e. ltb e bound ≡ false) (drop (from + 1) es) r → FirstFrom es bound (from + 1 + r)
+parted-after {es} {bound} {from} {r} sorted h less few (before, after) = record {
+  passed = record { within = omega (arith, length-drop (from + 1) es); below = λ k l. under k l (dec_le k from) };
+  from = λ k l m.
+      let at : from + 1 + (k - (from + 1)) ≡ k = omega arith in
+      let there = ltb-false _ _ (after (k - (from + 1)) 0 (omega arith) (omega (arith, length-drop (from + 1) es))) in
+      omega (arith, there, get_or-drop (from + 1) es (k - (from + 1)) 0, ap (λ (n : ℕ). get_or es n 0) at);
+}
+  where
+    under : (k : ℕ) → k < from + 1 + r → Dec (k ≤ from) → get_or es k 0 < bound
+    under k l (yes q) = omega (arith, order-at es sorted k from q h)
+    under k l (no n) =
+        let at : from + 1 + (k - (from + 1)) ≡ k = omega (arith, n) in
+        let there = ltb-true _ _ (before (k - (from + 1)) 0 (omega arith) (omega (arith, n))) in
+        omega (arith, there, get_or-drop (from + 1) es (k - (from + 1)) 0, ap (λ (i : ℕ). get_or es i 0) at)
+
+-- where they part is the first place, after one that is below the bound
+pub first-parted :
+    {es xs : List ℕ} {bound from r : ℕ} → xs ≡ drop (from + 1) es → in_order es ≡ true → from < length es → get_or es from 0 < bound →
+    r ≤ length xs → IsPartitionPoint (λ e. ltb e bound ≡ true) (λ e. ltb e bound ≡ false) xs r → FirstFrom es bound (from + 1 + r)
+first-parted {bound = bound} {r = r} is sorted h less few point =
+    parted-after sorted h less (omega (arith, few, ap length is))
+    (subst (λ (l : List ℕ). IsPartitionPoint (λ e. ltb e bound ≡ true) (λ e. ltb e bound ≡ false) l r) is point)
 
 -- ---- a run
 
@@ -168,3 +204,9 @@ module _ (key : ℕ) where
         written = before.written ∙ ap (λ (l : List ℕ). put_after from (rules_with key l) buffer) (take_all at es end);
         passed = running-passed;
       }
+
+      -- and the end is where it ended
+      pub running-end : length es ≤ at → RunLeft es buffer key from (length es) found now
+      running-end end =
+          let whole : at ≡ length es = omega (arith, before.within) in
+          subst (λ (n : ℕ). RunLeft es buffer key from n found now) whole (running-all end)

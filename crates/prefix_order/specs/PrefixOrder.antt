@@ -1,9 +1,10 @@
 -- The top rules in order of prefix, by their bytes and then by the table, and what finding a line's rules in it asks.
-use Rattle.std.specs.Prelude.{◌≡◌, true, List, map, ℕ, ◌+◌, ◌*◌, ◌/◌, ◌%◌, ◌≤◌, ◌<◌, eqb, length, get_or, take, None}
+use Rattle.std.specs.Prelude.{◌≡◌, true, List, map, ℕ, ◌+◌, ◌*◌, ◌/◌, ◌%◌, ◌≤◌, ◌<◌, eqb, length, get_or, None}
 use Rattle.plain.specs.Buffers.{put_after}
 use Rattle.plain.specs.Lists.{keep_if}
 use Rattle.line.specs.Line.{fault_at}
 use Rattle.defs.specs.Table.{table_fits, rule_parts}
+use Rattle.places.specs.declared.RulePlace.{RulePlace}
 use Rattle.places.specs.Places.{Placed}
 use Rattle.leads.specs.Leads.{key_of}
 use Rattle.ruledef_map.specs.RuledefMap.{rule_prefix, top_rules}
@@ -26,27 +27,24 @@ unfoldable pub rules_with : ℕ → List ℕ → List ℕ
 rules_with key es = map (λ e. e % 512) (keep_if (λ e. eqb (e / 512) key) es)
 
 -- what ordering asks: an accepted table, its top rules, where their parts stand, and room
-pub record OrderAsked (t places rules order spare : List ℕ) (n : ℕ) : Type 0 where
+pub record OrderAsked (t : List ℕ) (places : List RulePlace) (rules order spare : List ℕ) : Type 0 where
   pub table : table_fits t ≡ true
-  pub top : take n rules ≡ top_rules t
-  pub fits : n ≤ length rules
-  pub placed : Placed t places rules n
-  pub room : length order ≡ 512
-  pub aside : length spare ≡ 512
+  pub top : rules ≡ top_rules t
+  pub placed : Placed t places rules
+  pub room : length order ≡ length rules
+  pub aside : length order ≤ length spare
 
 -- what laying the entries asks
-pub record LayAsked (t places rules order : List ℕ) (n : ℕ) : Type 0 where
-  pub fits : n ≤ length rules
-  pub small : (j : ℕ) → j < n → get_or rules j 0 < 512
-  pub placed : Placed t places rules n
-  pub room : n ≤ length order
+pub record LayAsked (t : List ℕ) (places : List RulePlace) (rules order : List ℕ) : Type 0 where
+  pub small : (j : ℕ) → j < length rules → get_or rules j 0 < 512
+  pub placed : Placed t places rules
+  pub room : length order ≡ length rules
 
 -- what finding asks: an accepted table and line, the table's order, and room
-pub record FindAsked (t order line rules : List ℕ) (n : ℕ) : Type 0 where
+pub record FindAsked (t order line rules : List ℕ) : Type 0 where
   pub table : table_fits t ≡ true
   pub good : fault_at line ≡ None
-  pub ordered : take n order ≡ entries t
-  pub fits : n ≤ length order
+  pub ordered : order ≡ entries t
   pub room : length rules ≡ 512
 
 -- before a place all numbers are below a bound

@@ -11,6 +11,7 @@ ghost use Rattle.prefix_order.specs.PrefixOrder.{LayAsked, OrderAsked, FindAsked
 
 use defs::ruledef;
 use leads;
+use places::RulePlace;
 
 // What a key's byte weighs against the next, and what the first of its four weighs.
 const BASE: usize = 256;
@@ -21,63 +22,47 @@ const FIRST_WEIGHT: usize = BASE * BASE * BASE;
 const PLACES: usize = ruledef::MOST_RULES;
 
 // Lays each rule's entry, in the rules' order.
-fn lay_entries(table: &[u16], places: &[u16], rules: &[u16], count: usize, order: &mut [usize])
-    requires { LayAsked table.now places.now rules.now order.old count }
-    ensures { take count order.new ≡ map (entry_of table.now) (take count rules.now) }
+fn lay_entries(table: &[u16], places: &[RulePlace], rules: &[u16], order: &mut [usize])
+    requires { LayAsked table.now places.now rules.now order.old }
+    ensures { order.new ≡ map (entry_of table.now) rules.now }
 {
-    let mut i = 0;
-    while i < count {
-        let rule = rules[i] as usize;
-        let at = i;
-        i += 1;
-        let words = places::WORDS * rule;
-        let from = places[words + places::FROM] as usize;
-        let to = places[words + places::TO] as usize;
-        order[at] = leads::prefix_key(table, from, to) * PLACES + rule;
+    for (at, rule) in rules.iter().enumerate() {
+        let rule = *rule as usize;
+        let place = places[rule];
+        order[at] = leads::prefix_key(table, place.from as usize, place.to as usize) * PLACES
+            + rule;
     }
 }
 
 // Writes the top rules' entries, in order of prefix.
 pub fn order_rules(
     table: &[u16],
-    places: &[u16],
+    places: &[RulePlace],
     rules: &[u16],
-    count: usize,
     order: &mut [usize],
     spare: &mut [usize],
 )
-    requires { OrderAsked table.now places.now rules.now order.old spare.old count }
-    ensures answers { take count order.new ≡ entries table.now }
+    requires { OrderAsked table.now places.now rules.now order.old spare.old }
+    ensures answers { order.new ≡ entries table.now }
 {
-    lay_entries(table, places, rules, count, order);
-    sorting::sort(&mut order[..count], spare);
+    lay_entries(table, places, rules, order);
+    sorting::sort(order, spare);
 }
 
 // The place of the first entry that is not below a bound, or the end, at or after a place before which all are below it.
 // That place is looked at first, since it often is the one.
-fn first_from(order: &[usize], from: usize, count: usize, bound: usize) -> usize
-    requires count_in_bounds { count ≤ length order.now }
-    requires order_value { in_order (take count order.now) ≡ true }
-    requires passed { Passed (take count order.now) bound from }
-    ensures { FirstFrom (take count order.now) bound result }
+fn first_from(order: &[usize], from: usize, bound: usize) -> usize
+    requires order_value { in_order order.now ≡ true }
+    requires passed { Passed order.now bound from }
+    ensures { FirstFrom order.now bound result }
 {
-    if count <= from {
+    if order.len() <= from {
         return from;
     }
     if bound <= order[from] {
         return from;
     }
-    let mut low = from + 1;
-    let mut high = count;
-    while low < high {
-        let middle = low + (high - low) / 2;
-        if order[middle] < bound {
-            low = middle + 1;
-        } else {
-            high = middle;
-        }
-    }
-    low
+    from + 1 + order[from + 1..].partition_point(|entry| *entry < bound)
 }
 
 // Where a run ends in the order, and where its rules end among those written.
@@ -89,57 +74,43 @@ struct Run {
 
 // Writes the rules whose prefix has this key after those written before: they are a run of the order, at or after a place
 // before which all are of lesser keys.
-fn put_run(
-    order: &[usize],
-    begin: usize,
-    count: usize,
-    key: usize,
-    rules: &mut [u16],
-    from: usize,
-) -> Run
-    requires count_in_bounds { count ≤ length order.now }
-    requires run_asked { RunAsked (take count order.now) rules.old key begin from }
-    ensures { RunLeft (take count order.now) rules.old key from result.end result.found rules.new }
+fn put_run(order: &[usize], begin: usize, key: usize, rules: &mut [u16], from: usize) -> Run
+    requires { RunAsked order.now rules.old key begin from }
+    ensures { RunLeft order.now rules.old key from result.end result.found rules.new }
 {
-    let mut end = first_from(order, begin, count, key * PLACES);
+    let first = first_from(order, begin, key * PLACES);
     let mut found = from;
-    while end < count {
+    for end in first..order.len() {
         let entry = order[end];
         if entry / PLACES != key {
             return Run { end, found };
         }
-        end += 1;
         rules[found] = (entry % PLACES) as u16;
         found += 1;
     }
-    Run { end, found }
+    Run {
+        end: order.len(),
+        found,
+    }
 }
 
 // Writes the rules to try on a line: those of its prefix's beginnings, the shortest first, and within one length in table
 // order. A key goes along: one byte more adds that byte at its weight; and as no byte is 0 the keys ascend, so each run is
 // sought from the end of the last. The table is lent for the promise alone: its order says all that is needed.
-pub fn find_rules(
-    table: &[u16],
-    order: &[usize],
-    count: usize,
-    line: &[u8],
-    rules: &mut [u16],
-) -> usize
-    requires { FindAsked table.now order.now line.now rules.old count }
+pub fn find_rules(table: &[u16], order: &[usize], line: &[u8], rules: &mut [u16]) -> usize
+    requires { FindAsked table.now order.now line.now rules.old }
     ensures answers { take result rules.new ≡ found_rules table.now (line_prefix line.now) }
     ensures many { result ≡ length (found_rules table.now (line_prefix line.now)) }
     ensures few { result ≤ 512 }
 {
     let prefix = ruledef_map::parse_prefix(line);
-    let mut run = put_run(order, 0, count, 0, rules, 0);
-    let mut size: usize = 0;
+    let mut run = put_run(order, 0, 0, rules, 0);
     let mut key: usize = 0;
     let mut weight = FIRST_WEIGHT;
-    while size < prefix.count {
+    for size in 0..prefix.count {
         key += prefix.bytes[size] as usize * weight;
         weight = weight / BASE;
-        size += 1;
-        run = put_run(order, run.end, count, key, rules, run.found);
+        run = put_run(order, run.end, key, rules, run.found);
     }
     run.found
 }

@@ -31,7 +31,8 @@ pub fn parse_prefix(line: &[u8]) -> Prefix
         if MAX_PREFIX_SIZE <= count {
             return Prefix { bytes, count };
         }
-        if !token::is_whitespace(b) {
+        let counts = !token::is_whitespace(b);
+        if counts {
             bytes[count] = token::to_ascii_lowercase(b);
             count += 1;
         }

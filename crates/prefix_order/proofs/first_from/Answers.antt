@@ -1,14 +1,21 @@
-use Prim.Native.Nat.{◌+◌, ◌-◌, ◌/◌}
+-- The place from which it is sought settles one side like any other entry; after it the entries are parted.
+use borrow.Author.Tests.{tests}
+use borrow.Author.Rules.{rules}
+use mathlib.Core.Path.{refl}
 use native.Mathlib.Omega.{arith}
-use lib.Seq.{length-take-le, get_or-take}
-use Rattle.prefix_order.proofs.Runs.{bracket-none, bracket-up, bracket-down, bracket-met}
+use Prim.Native.Nat.{◌+◌, ◌-◌}
+use lib.Dec.{ltb}
+use lib.ListN.{length, drop, length-drop}
+use lib.Seq.{take_all}
+use Rattle.std.proofs.lemmas.List.Sorted.{IsPartitionPoint-from_clause}
+use Rattle.prefix_order.proofs.Runs.{bracket-none, bracket-down, bracket-met, order-parted, first-parted}
 use Rattle.prefix_order.proofs.first_from.Goals as goal
 
 pub returns-then-bound-order : goal.returns-then-bound-order
-returns-then-bound-order c = bracket-met {high = c.args.from} (bracket-down (bracket-none (length-take-le _ _ c.requires.count_in_bounds) c.requires.passed) c.requires.order_value (omega arith) (omega arith) (rw (get_or-take c.args.count c.args.order.now c.args.from 0 (omega arith)) c.if-bound-order.true)) (omega arith)
+returns-then-bound-order c = bracket-met {high = c.args.from} (bracket-down (bracket-none refl c.requires.passed) c.requires.order_value (omega arith) (omega arith) c.if-bound-order.true) (omega arith)
 
-pub loop-low-preserved-then-order-middle : goal.loop-low-preserved-then-order-middle
-loop-low-preserved-then-order-middle c = (bracket-up c.loop-low.invariant.0 c.requires.order_value (omega arith) (omega arith) (rw (get_or-take c.args.count c.args.order.now (c.loop-low.low + (c.loop-low.high - c.loop-low.low) / 2) 0 (omega arith)) c.if-order-middle.true), omega arith)
-
-pub loop-low-preserved : goal.loop-low-preserved
-loop-low-preserved c = (bracket-down c.loop-low.invariant.0 c.requires.order_value (omega arith) (omega arith) (rw (get_or-take c.args.count c.args.order.now (c.loop-low.low + (c.loop-low.high - c.loop-low.low) / 2) 0 (omega arith)) c.if-order-middle.false), omega arith)
+pub returns : goal.returns
+returns c =
+    let whole = take_all (length c.args.order.now - (c.args.from + 1)) (drop (c.args.from + 1) c.args.order.now) (omega (arith, length-drop (c.args.from + 1) c.args.order.now)) in
+    first-parted whole c.requires.order_value (omega arith) (omega arith) c.partition_point.ensures.bound
+    (IsPartitionPoint-from_clause (λ e. ltb e c.args.bound) _ _ c.partition_point.ensures.partitioned (order-parted _ _ _ whole c.requires.order_value) (λ a r f k. search (rules, tests)))
