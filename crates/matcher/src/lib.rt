@@ -52,23 +52,14 @@ fn call(
     let starts = ruledef::ruleset_starts(table);
     let mut rules = [0u16; ruledef::MOST_RULES];
     let count = rules_to_try(table, line, order, &mut rules);
-    let mut places = [0u16; places::ROOM];
-    places::place_rules(table, &starts, &rules, count, &mut places);
+    let rules = &rules[..count];
+    let mut places = places::NONE;
+    places::place_rules(table, &starts, rules, &mut places);
     let mut leads = [0u32; ruledef::MOST_RULES];
-    trials::lead_rules(table, &starts, &places, &rules, count, order, &mut leads);
+    trials::lead_rules(table, &starts, &places, rules, order, &mut leads);
     let mut store = [0usize; Pool::ROOM];
     trials::read_line(
-        table,
-        line,
-        sheet,
-        budget,
-        base,
-        &starts,
-        &leads,
-        &places,
-        &rules[..count],
-        order,
-        &mut store,
+        table, line, sheet, budget, base, &starts, &leads, &places, rules, order, &mut store,
         answer,
     )
 }

@@ -6,16 +6,14 @@ use mathlib.Core.Logic.{inl, inr}
 use mathlib.Core.List.Memᴰ
 use mathlib.Core.List.{List, [], ◌∷◌, flat_map, Memᴰ}
 use Prim.Native.Nat.{ℕ, suc, ◌≤◌}
-use native.Mathlib.Omega.{arith}
 use lib.ListN.{length, get_or, take}
-use lib.Seq.{get_or-take, length-take-le}
 use Rattle.plain.specs.Lists.{range}
 use Rattle.plain.proofs.Members.{kept-mem}
 use Rattle.plain.proofs.Tests.{not-both}
 use Rattle.defs.specs.Table.{rule_parts}
 use Rattle.ruledef_map.specs.RuledefMap.{line_prefix, rule_prefix, same_bytes, top_rules, with_prefix, found_in, found_rules}
 use Rattle.readings.specs.Plan.{room}
-use Rattle.places.specs.Places.{PlacedAt}
+use Rattle.places.specs.declared.RulePlace.{RulePlace}
 use Rattle.walk.proofs.Held.{member-at}
 use Rattle.trials.specs.declared.Order.{Order}
 use Rattle.trials.specs.declared.Order.TheVariants.{Scan, Lookup}
@@ -43,7 +41,7 @@ chosen-top Lookup t line m = found-top t (line_prefix line) m
 
 -- ---- what reading the line asks
 
-module _ {how : Order} {t line sheet starts places order rules store : List ℕ} {tops count budget base : ℕ}
+module _ {how : Order} {t line sheet starts order rules store : List ℕ} {places : List RulePlace} {tops count budget base : ℕ}
     (ready : Prepared t starts places) (lined : LineAccepted line sheet budget base) (chosen : ChosenFor how t line order rules tops count) (sized : length store ≡ room) where
   pub read_asked : ReadAsked t line sheet starts places store (take count rules) budget base
   read_asked = record {

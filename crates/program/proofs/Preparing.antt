@@ -4,15 +4,18 @@ use mathlib.Core.Path.{◌≡◌, sym, subst, ◌∙◌}
 use mathlib.Core.Bool.{true}
 use mathlib.Core.Logic.{inl, inr}
 use mathlib.Core.List.Memᴰ
-use mathlib.Core.List.{List, [], ◌∷◌, Memᴰ}
+use mathlib.Core.List.{List, [], ◌∷◌, ◌++◌, Memᴰ}
 use Prim.Native.Nat.{ℕ, suc, ◌≤◌, ◌<◌}
 use native.Mathlib.Omega.{arith}
-use lib.ListN.{length, get_or, take}
-use lib.Seq.{get_or-take, length-take-le}
+use lib.ListN.{length, get_or, take, drop, length-append, length-drop}
+use lib.Seq.{take_at, length-take-le}
 use Rattle.defs.specs.Table.{table_fits}
 use Rattle.defs.specs.Ruledef.{starts_of}
 use Rattle.ruledef_map.specs.RuledefMap.{top_rules}
+use Rattle.places.specs.declared.RulePlace.{RulePlace}
 use Rattle.places.specs.Places.{PlacedAt, Placed, PlaceAsked}
+use Rattle.trials.specs.Orders.{LeadAsked}
+use Rattle.trials.proofs.Leading.{lead-asked}
 use Rattle.prefix_order.specs.PrefixOrder.{entries, OrderAsked}
 use Rattle.trials.specs.declared.Order.{Order}
 use Rattle.trials.specs.declared.Order.TheVariants.{Scan}
@@ -31,23 +34,41 @@ module _ (t starts rules : List ℕ) (n : ℕ) (ok : table_fits t ≡ true) (beg
   fits : n ≤ length rules
   fits = omega (arith, long)
 
-  pub place-asked : (places : List ℕ) → length places ≡ 2048 → PlaceAsked t starts rules places n
-  place-asked places sized = chosen-places t [] ok starts rules places n begins (all_tops tops) fits sized
+  -- the order's start, which is lent for the entries, and the order that they leave
+  module _ (order : List ℕ) (whole : length order ≡ 512) where
+    pub start-long : length (take n order) ≡ n
+    start-long = length-take-le n order (omega arith)
 
-  module _ (places : List ℕ) (placed : Placed t places rules n) where
-    pub order-asked : (order spare : List ℕ) → length order ≡ 512 → length spare ≡ 512 → OrderAsked t places rules order spare n
-    order-asked order spare room aside = record { table = ok; top = tops; fits = fits; placed = placed; room = room; aside = aside }
+    module _ (new : List ℕ) (same : length new ≡ length (take n order)) where
+      pub order-long : length (new ++ drop n order) ≡ 512
+      order-long = omega (arith, length-append new (drop n order), length-drop n order, start-long)
+
+      pub order-starts : take n (new ++ drop n order) ≡ new
+      order-starts = take_at new (drop n order) n (same ∙ start-long)
+
+  pub place-asked : (places : List RulePlace) → length places ≡ 512 → PlaceAsked t starts (take n rules) places
+  place-asked places sized = chosen-places t [] ok starts (take n rules) places begins (all_tops tops) sized
+
+  module _ (places : List RulePlace) (placed : Placed t places (take n rules)) where
+    pub top-leads-asked : (leads : List ℕ) → length leads ≡ 512 → LeadAsked t starts places (take n rules) leads
+    top-leads-asked leads sized = lead-asked [] ok begins (all_tops tops) placed sized
+
+    pub order-asked : (order spare : List ℕ) → length order ≡ n → length spare ≡ 512 → OrderAsked t places (take n rules) order spare
+    order-asked order spare room aside = record {
+      table = ok;
+      top = tops;
+      placed = placed;
+      room = room ∙ sym (length-take-le n rules fits);
+      aside = omega arith;
+    }
 
     prepared : Prepared t starts places
     prepared = record {
       table = ok;
       begins = begins;
       sized = placed.sized;
-      placed = λ i m. let (j, h, e) = index_of (take n rules) (subst (Memᴰ i) (sym tops) m) in here i j (omega (arith, h, length-take-le n rules fits)) e;
+      placed = λ i m. let (j, h, e) = index_of (take n rules) (subst (Memᴰ i) (sym tops) m) in subst (PlacedAt t places) e (placed.each j h);
     }
-      where
-        here : (i j : ℕ) → j < n → get_or (take n rules) j 0 ≡ i → PlacedAt t places i
-        here i j h e = subst (PlacedAt t places) (sym (get_or-take n rules j 0 h) ∙ e) (placed.each j h)
 
     module _ (how : Order) (order : List ℕ) (room : length order ≡ 512) where
       pub scan-ready : how ≡ Scan → Ready how t starts places order rules n

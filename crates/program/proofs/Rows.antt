@@ -8,7 +8,6 @@ use Rattle.trials.specs.declared.Matched.{Matched}
 use Rattle.trials.specs.declared.Refused.{Refused}
 use Rattle.trials.specs.declared.Refused.TheVariants.{NoMatch, BadTable, BadLine, BadSheet, BadBudget, BadBase, Spent, TooDeep, PoolFull, TooLong}
 use Rattle.trials.specs.Told.{says}
-use Rattle.program.specs.declared.Row.{Row}
 use Rattle.program.specs.Says.{RowOf}
 
 none_taken : (r : Refused) (b : List ℕ) → 0 ≡ taken (says (Err r) b)

@@ -4,6 +4,7 @@ use mathlib.Core.List.{List, Memᴰ}
 use Rattle.defs.specs.Table.{table_fits}
 use Rattle.defs.specs.Ruledef.{starts_of}
 use Rattle.ruledef_map.specs.RuledefMap.{top_rules}
+use Rattle.places.specs.declared.RulePlace.{RulePlace}
 use Rattle.places.specs.Places.{PlacedAt}
 use Rattle.prefix_order.specs.PrefixOrder.{entries}
 use Rattle.trials.specs.declared.Order.{Order}
@@ -11,10 +12,10 @@ use Rattle.trials.specs.declared.Order.TheVariants.{Scan, Lookup}
 use Rattle.trials.specs.Orders.{rules_of}
 
 -- an accepted table, where its rulesets begin, and the places of its top rules
-pub record Prepared (t starts places : List ℕ) : Type 0 where
+pub record Prepared (t starts : List ℕ) (places : List RulePlace) : Type 0 where
   pub table : table_fits t ≡ true
   pub begins : starts ≡ starts_of t
-  pub sized : length places ≡ 2048
+  pub sized : length places ≡ 512
   pub placed : (i : ℕ) → Memᴰ i (top_rules t) → PlacedAt t places i
 
 -- for a scan the top rules, for lookup their prefix order, and room for the rules of a line
@@ -26,7 +27,7 @@ pub record Ordered (how : Order) (t order rules : List ℕ) (tops : ℕ) : Type 
   pub sorted : how ≡ Lookup → take tops order ≡ entries t
 
 -- a table prepared and ordered
-pub record Ready (how : Order) (t starts places order rules : List ℕ) (tops : ℕ) : Type 0 where
+pub record Ready (how : Order) (t starts : List ℕ) (places : List RulePlace) (order rules : List ℕ) (tops : ℕ) : Type 0 where
   pub prepared : Prepared t starts places
   pub ordered : Ordered how t order rules tops
 

@@ -19,6 +19,7 @@ ghost use Rattle.program.specs.Says.{RowOf, program_says};
 ghost use Rattle.program.specs.Prepared.{Ready, Ordered, ChosenFor};
 
 use defs::ruledef;
+use places::RulePlace;
 use pool::Pool;
 use trials::{Matched, Order, Refused};
 
@@ -82,7 +83,7 @@ struct Groundwork {
     // Where the table's rulesets begin.
     starts: [u16; 33],
     // The places of the top rules, and the leads by which rules are told to fail.
-    places: [u16; places::ROOM],
+    places: [RulePlace; ruledef::MOST_RULES],
     leads: [u32; ruledef::MOST_RULES],
     // For lookup, the top rules in prefix order.
     order: [usize; ruledef::MOST_RULES],
@@ -101,16 +102,17 @@ impl Groundwork {
     {
         let starts = ruledef::ruleset_starts(table);
         let tops = ruledef_map::top_rules(table, rules);
-        let mut places = [0u16; places::ROOM];
-        places::place_rules(table, &starts, rules, tops, &mut places);
+        let listed = &rules[..tops];
+        let mut places = places::NONE;
+        places::place_rules(table, &starts, listed, &mut places);
         let mut leads = [0u32; ruledef::MOST_RULES];
-        trials::lead_rules(table, &starts, &places, rules, tops, how, &mut leads);
+        trials::lead_rules(table, &starts, &places, listed, how, &mut leads);
         let mut order = [0usize; ruledef::MOST_RULES];
         match how {
             Order::Scan => {}
             Order::Lookup => {
                 let mut spare = [0usize; ruledef::MOST_RULES];
-                prefix_order::order_rules(table, &places, rules, tops, &mut order, &mut spare);
+                prefix_order::order_rules(table, &places, listed, &mut order[..tops], &mut spare);
             }
         }
         Groundwork {
@@ -132,7 +134,7 @@ impl Groundwork {
     {
         match self.how {
             Order::Scan => self.tops,
-            Order::Lookup => prefix_order::find_rules(table, &self.order, self.tops, line, rules),
+            Order::Lookup => prefix_order::find_rules(table, &self.order[..self.tops], line, rules),
         }
     }
 

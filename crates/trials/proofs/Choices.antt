@@ -6,7 +6,7 @@ use mathlib.Core.List.{List, [], ◌++◌, map, Memᴰ}
 use Prim.Native.Nat.{ℕ, ◌≤◌, ◌<◌}
 use native.Mathlib.Omega.{arith}
 use lib.ListN.{length, get_or, take, drop, length-take}
-use lib.Seq.{take_at, get_or-take, length-take-le}
+use lib.Seq.{take_at}
 use Rattle.defs.specs.Table.{table_fits, records_in}
 use Rattle.defs.specs.Ruledef.{starts_of}
 use Rattle.ruledef_map.specs.RuledefMap.{line_prefix, held_prefix, prefix_bytes, top_rules, found_rules, put_rules}
@@ -18,7 +18,8 @@ use Rattle.readings.specs.Lookup.{found_pairs}
 use Rattle.readings.specs.Records.{pair_of}
 use Rattle.readings.specs.Call.{call_with, scan_call, lookup_call}
 use Rattle.readings.proofs.Records.{few-records, top-many, found-many, top_below, found_below, top-pairs, found-pairs}
-use Rattle.places.specs.Places.{PlaceAsked, Placed, PlacedAt}
+use Rattle.places.specs.declared.RulePlace.{RulePlace}
+use Rattle.places.specs.Places.{PlaceAsked}
 use Rattle.walk.proofs.Held.{held-is, member-at}
 use Rattle.trials.specs.Told.{listed_call, Chosen, all_tops, by_prefix}
 
@@ -51,16 +52,6 @@ module _ (t line buffer b : List ℕ) (n : ℕ) (ok : table_fits t ≡ true) (lo
       let k = ap (found_rules t) (prefix-is line p is) in
       (i ∙ k, omega (arith, j, ap length k, found-many t line [] ok (line_prefix line) (prefix-few line)))
 
--- ---- rules that are placed, where they stand at a buffer's start
-
-pub placed_first : {t places : List ℕ} (rules : List ℕ) (n : ℕ) → n ≤ length rules → Placed t places rules n → Placed t places (take n rules) (length (take n rules))
-placed_first {t} {places} rules n fits placed =
-    let long : length (take n rules) ≡ n = length-take-le n rules fits in
-    record {
-      sized = placed.sized;
-      each = λ i h. subst (PlacedAt t places) (sym (get_or-take n rules i 0 (omega arith))) (placed.each i (omega arith));
-    }
-
 -- ---- rules of the table
 
 module _ (t line : List ℕ) (ok : table_fits t ≡ true) where
@@ -71,15 +62,8 @@ module _ (t line : List ℕ) (ok : table_fits t ≡ true) where
   pub chosen_at : (rules : List ℕ) → Chosen t line rules → (i : ℕ) → i < length rules → get_or rules i 0 < records_in t
   chosen_at rules c i h = chosen-below c (member-at rules i h)
 
-  -- so of those at a buffer's start
-  pub chosen_first : (rules : List ℕ) (n : ℕ) → Chosen t line (take n rules) → n ≤ length rules → (i : ℕ) → i < n → get_or rules i 0 < records_in t
-  chosen_first rules n c fits i h =
-      subst (λ (x : ℕ). x < records_in t) (get_or-take n rules i 0 h)
-      (chosen_at (take n rules) c i (omega (arith, length-take-le n rules fits)))
-
-  pub chosen-places : (starts rules places : List ℕ) (n : ℕ) → starts ≡ starts_of t → Chosen t line (take n rules) → n ≤ length rules → length places ≡ 2048
-      → PlaceAsked t starts rules places n
-  chosen-places starts rules places n begins c fits sized = record { table = ok; begins = begins; fits = fits; below = chosen_first rules n c fits; sized = sized }
+  pub chosen-places : (starts rules : List ℕ) (places : List RulePlace) → starts ≡ starts_of t → Chosen t line rules → length places ≡ 512 → PlaceAsked t starts rules places
+  chosen-places starts rules places begins c sized = record { table = ok; begins = begins; below = chosen_at rules c; sized = sized }
 
   -- ---- the call that tries them is the scan's, or lookup's
 

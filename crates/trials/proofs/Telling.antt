@@ -15,6 +15,7 @@ use Rattle.plain.specs.Told.{Told}
 use Rattle.plain.proofs.Members.{kept-has}
 use Rattle.ruledef_map.specs.RuledefMap.{line_prefix}
 use Rattle.defs.specs.Table.{table_fits}
+use Rattle.places.specs.declared.RulePlace.{RulePlace}
 use Rattle.readings.specs.Tree.{Tree, moved}
 use Rattle.line.specs.Line.{GoodLine}
 use Rattle.line.proofs.Lines.{good-is}
@@ -135,7 +136,7 @@ stopped-by {t} {o} {store} m e = go (subst (Tried t o store) e m)
     go : {s : Stopped} → Tried t o store (Err s) → o ≡ stop (number_of s.why) s.left
     go (stopped x) = x
 
-module _ {t line sheet starts places store₀ rules : List ℕ} {budget base : ℕ} (asked : ReadAsked t line sheet starts places store₀ rules budget base) where
+module _ {t line sheet starts store₀ rules : List ℕ} {places : List RulePlace} {budget base : ℕ} (asked : ReadAsked t line sheet starts places store₀ rules budget base) where
   ok : Accepted t line sheet budget base
   ok = record { table = asked.table; bytes = asked.lined.bytes; extents = asked.lined.extents; visits = asked.lined.visits; origin = asked.lined.origin }
 

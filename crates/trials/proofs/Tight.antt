@@ -64,7 +64,7 @@ pub same_answer : (a c : Result Matched Refused) (b d : List ℕ) → says a b �
 same_answer a c b d e =
     (sym (case-of-says a b) ∙ ap case-of e ∙ case-of-says c d, sym (buffer-of a b) ∙ ap (λ (r : Told). r.buffer) e ∙ buffer-of c d)
 
-pub lead_rules-tight : (κs a r s x y : _) → lead-rules.Post κs a r x → lead-rules.Post κs a s y → (i : ℕ) → ◌≡◌ {A = ℕ} (get_or x.1.1.1.1.1.1.0.now i 0) (get_or y.1.1.1.1.1.1.0.now i 0)
+pub lead_rules-tight : (κs a r s x y : _) → lead-rules.Post κs a r x → lead-rules.Post κs a s y → (i : ℕ) → ◌≡◌ {A = ℕ} (get_or x.1.1.1.1.1.0.now i 0) (get_or y.1.1.1.1.1.0.now i 0)
 lead_rules-tight κs a r s x y = led-same
 
 pub check-tight : (κs a : _) (r s : Result Unit Refused) (x y : _) → check.Post κs a r x → check.Post κs a s y → r ≡ s

@@ -3,12 +3,12 @@ use mathlib.Core.Path.{◌≡◌, refl, sym, ap, ap₂, subst, ◌∙◌}
 use mathlib.Core.Bool.{Bool}
 use mathlib.Core.List.{List, [], ◌∷◌, ◌++◌, map, map-id}
 use Rattle.std.specs.Prelude.{Option, Some, Result, Ok, Err}
-use Prim.Native.Nat.{ℕ, ◌+◌, ◌*◌, ◌-◌, ◌≤◌, ◌<◌}
+use Prim.Native.Nat.{ℕ, ◌+◌, ◌-◌, ◌≤◌, ◌<◌}
 use native.Mathlib.Omega.{arith}
 use lib.Dec.{eqb}
 use lib.ListN.{length, get_or, take}
 use Rattle.syntax.specs.declared.walker.Walker.{Walker}
-use Rattle.defs.specs.Table.{records_in, ruleset_at, parts_between, rule_span}
+use Rattle.defs.specs.Table.{records_in, parts_between, rule_span}
 use Rattle.defs.specs.declared.ruledef.Part.{Part}
 use Rattle.std.specs.declared.ops.Range.{Range}
 use Rattle.defs.proofs.Words.{parts_whole}
@@ -38,8 +38,8 @@ use Rattle.walk.specs.Met.{finishes, parts_plan, rule_plan, ran, Ready, to_come,
 use Rattle.ruledef_map.specs.RuledefMap.{rule_prefix}
 use Rattle.leads.specs.Leads.{ahead_of, failing_of, Leads}
 use Rattle.leads.proofs.Told.{lead-tells, told-some}
-use Rattle.places.specs.Places.{PlacedAt}
-use Rattle.places.proofs.Words.{table-short}
+use Rattle.places.specs.declared.RulePlace.{RulePlace}
+use Rattle.places.specs.Places.{place_at}
 use Rattle.trials.specs.Told.{TryAsked, Tried, listed, stopped}
 use Rattle.walk.proofs.Outcomes.{mapped-done, mapped-stop}
 use Rattle.walk.proofs.Logs.{made_none}
@@ -61,7 +61,7 @@ unfolding tries each
 tries-are t line sheet [] = refl
 tries-are t line sheet (i ∷ is) = ap (λ (p : Plan (List Match)). trial_of t line sheet i then λ a. p then λ b. give (a ++ b)) (tries-are t line sheet is)
 
-module _ {t line sheet starts places store₀ rules : List ℕ} {visits : ℕ} (asked : TryAsked t line sheet starts places store₀ rules visits) where
+module _ {t line sheet starts store₀ rules : List ℕ} {places : List RulePlace} {visits : ℕ} (asked : TryAsked t line sheet starts places store₀ rules visits) where
   abbrev s : Scene
   s = scene_of t line sheet
 
@@ -79,12 +79,9 @@ module _ {t line sheet starts places store₀ rules : List ℕ} {visits : ℕ} (
       known : rule < records_in t
       known = subst (λ (x : ℕ). x < records_in t) (sym rule-is) (asked.below i h)
 
-      placed-here : PlacedAt t places rule
-      placed-here = subst (PlacedAt t places) (sym rule-is) (asked.placed.each i h)
-
-      -- where the rule's words stand
-      pub words-there : (rule < 512) × (4 * rule + 3 < length places)
-      words-there = let few : rule < 512 = omega (arith, known, few-records t line sheet asked.accepted.table) in (few, omega (arith, few, asked.placed.sized))
+      -- where the rule's place stands
+      pub place-there : (rule < 512) × (rule < length places)
+      place-there = let few : rule < 512 = omega (arith, known, few-records t line sheet asked.accepted.table) in (few, omega (arith, few, asked.placed.sized))
 
       -- a rule that fails in its leading exact parts, told by its lead, is counted without a walk
       module _ {leads : List ℕ} (led : Leads t leads) (bytes : (j : ℕ) → get_or line j 0 < 256) (w : Walker) (start : w.cursor ≡ 0) (end_of_lem : w.limit ≡ length line)
@@ -112,126 +109,121 @@ module _ {t line sheet starts places store₀ rules : List ℕ} {visits : ℕ} (
             ∙ index-stop (trial_of t line sheet) itself 0 rules i did h rule 0 rule-is
             (fails-stop s (under s depths) (eqb (length line)) (s.parts (pair_of t rule).0 (pair_of t rule).1) (length line) 0 (omega arith) (omega arith) fails fails-so some (named (pair_of t rule).0 (pair_of t rule).1) v u few))
 
-      in-ruleset : ruleset_at t rule < 32
+      in-ruleset : (pair_of t rule).0 < 32
+      unfolding pair_of
       in-ruleset = (pair-within t line sheet asked.accepted.table rule known).2
 
       number_small : (pair_of t rule).1 < 512
       unfolding pair_of
-      number_small = omega (arith, words-there.0)
+      number_small = omega (arith, place-there.0)
 
-      group_of : get_or places (4 * rule) 0 ≡ (pair_of t rule).0
-      unfolding pair_of
-      group_of = placed-here.set
+      module _ {here : RulePlace} (here-is : here ≡ place_at t rule) where
+        group_of : here.set ≡ (pair_of t rule).0
+        unfolding pair_of place_at
+        group_of = ap (λ (p : RulePlace). p.set) here-is
 
-      number_is : get_or places (4 * rule + 1) 0 ≡ (pair_of t rule).1
-      unfolding pair_of
-      number_is = placed-here.number
+        number_is : here.number ≡ (pair_of t rule).1
+        unfolding pair_of place_at
+        number_is = ap (λ (p : RulePlace). p.number) here-is
 
-      parts : Range ℕ
-      parts = record { start = get_or places (4 * rule + 2) 0; end = get_or places (4 * rule + 3) 0 }
+        parts : Range ℕ
+        parts = record { start = here.from; end = here.to }
 
-      span : parts ≡ rule_span t rule
-      unfolding parts
-      span = λ k. record { start = placed-here.from k; end = placed-here.to k }
+        span : parts ≡ rule_span t rule
+        unfolding parts place_at
+        span = λ k. record { start = (here-is k).from; end = (here-is k).to }
 
-      pub fields-small : (get_or places (4 * rule) 0 < 32) × (get_or places (4 * rule + 1) 0 < 512) × (get_or places (4 * rule + 2) 0 < 65536) × (get_or places (4 * rule + 3) 0 < 65536)
-      unfolding parts
-      fields-small =
-          let sp = span-within t line sheet asked.accepted.table rule known parts span in
-          let short = table-short t asked.accepted.table in
-          (omega (arith, placed-here.set, in-ruleset), omega (arith, number_is, number_small), omega (arith, sp.ordered, sp.within, short), omega (arith, sp.within, short))
+        module _ (w : Walker) (start : w.cursor ≡ 0) (end_of_lem : w.limit ≡ length line) where
+          abbrev there : Place
+          there = record {
+            set = here.set;
+            rule = here.number;
+            at = here.from;
+            end = here.to;
+            depth = 0;
+            args = 0;
+          }
 
-      module _ (w : Walker) (start : w.cursor ≡ 0) (end_of_lem : w.limit ≡ length line) where
-        abbrev there : Place
-        there = record {
-          set = get_or places (4 * rule) 0;
-          rule = get_or places (4 * rule + 1) 0;
-          at = get_or places (4 * rule + 2) 0;
-          end = get_or places (4 * rule + 3) 0;
-          depth = 0;
-          args = 0;
-        }
+          pub try-ready : (has : Pool) → has.used ≡ u → Ready t line sheet starts store there w has
+          unfolding parts
+          try-ready has e =
+              let sp = span-within t line sheet asked.accepted.table rule known parts span in
+              record {
+                table = asked.accepted.table;
+                extents = asked.accepted.extents;
+                short = short;
+                begins = asked.begins;
+                stored = subst (Stored store) (sym e) did.stored;
+                counted = subst (λ (n : ℕ). Counted (scene_of t [] []) (log_of store n)) (sym e) did.counted;
+                sets = omega (arith, group_of, in-ruleset);
+                rules = omega (arith, number_is, number_small);
+                parts = sp.from;
+                ordered = sp.ordered;
+                whole = sp.within;
+                depth = omega arith;
+                last = omega arith;
+                cursor = omega (arith, start);
+                limit = omega (arith, end_of_lem);
+                top = λ e. end_of_lem;
+              }
 
-        pub try-ready : (has : Pool) → has.used ≡ u → Ready t line sheet starts store there w has
-        unfolding parts
-        try-ready has e =
-            let sp = span-within t line sheet asked.accepted.table rule known parts span in
-            record {
-              table = asked.accepted.table;
-              extents = asked.accepted.extents;
-              short = short;
-              begins = asked.begins;
-              stored = subst (Stored store) (sym e) did.stored;
-              counted = subst (λ (n : ℕ). Counted (scene_of t [] []) (log_of store n)) (sym e) did.counted;
-              sets = omega (arith, placed-here.set, in-ruleset);
-              rules = omega (arith, number_is, number_small);
-              parts = sp.from;
-              ordered = sp.ordered;
-              whole = sp.within;
-              depth = omega arith;
-              last = omega arith;
-              cursor = omega (arith, start);
-              limit = omega (arith, end_of_lem);
-              top = λ e. end_of_lem;
-            }
+          parts_are : parts_between t here.from here.to ≡ s.parts (pair_of t rule).0 (pair_of t rule).1
+          unfolding parts
+          parts_are = parts_whole t rule parts span ∙ sym (pair_parts t line sheet asked.accepted.table rule known)
 
-        parts_are : parts_between t (get_or places (4 * rule + 2) 0) (get_or places (4 * rule + 3) 0) ≡ s.parts (pair_of t rule).0 (pair_of t rule).1
-        unfolding parts
-        parts_are = parts_whole t rule parts span ∙ sym (pair_parts t line sheet asked.accepted.table rule known)
+          -- a top rule begins with no argument, and no count
+          pub try-stands : (u : ℕ) {n : ℕ} → n ≡ 0 → Stands t store u there n (to_come t there) w.cursor
+          unfolding chain_at scene_of
+          try-stands u z = record {
+            own = first;
+            so_far = so-start (scene_of t [] []) (ap₂ (λ (a b : ℕ). (scene_of t [] []).parts a b) group_of number_is ∙ sym parts_are) z;
+            small = omega arith;
+          }
 
-        -- a top rule begins with no argument, and no count
-        pub try-stands : (u : ℕ) {n : ℕ} → n ≡ 0 → Stands t store u there n (to_come t there) w.cursor
-        unfolding chain_at scene_of
-        try-stands u z = record {
-          own = first;
-          so_far = so-start (scene_of t [] []) (ap₂ (λ (a b : ℕ). (scene_of t [] []).parts a b) group_of number_is ∙ sym parts_are) z;
-          small = omega arith;
-        }
+          abbrev walked : Plan (List Found)
+          walked = walk s (under s depths) (eqb (length line)) (s.parts (pair_of t rule).0 (pair_of t rule).1) (length line) 0
 
-        abbrev walked : Plan (List Found)
-        walked = walk s (under s depths) (eqb (length line)) (s.parts (pair_of t rule).0 (pair_of t rule).1) (length line) 0
+          abbrev planned : Plan (List Found)
+          planned = rule_plan t line sheet 0 here.from here.to w.limit w.cursor
 
-        abbrev planned : Plan (List Found)
-        planned = rule_plan t line sheet 0 (get_or places (4 * rule + 2) 0) (get_or places (4 * rule + 3) 0) w.limit w.cursor
+          plan-is : planned ≡ walked
+          unfolding rule_plan parts_plan finishes
+          plan-is =
+              ap (λ (ps : List Part). walk s (under s depths) (eqb (length line)) ps w.limit w.cursor) parts_are
+              ∙ ap (λ (l : ℕ). walk s (under s depths) (eqb (length line)) (s.parts (pair_of t rule).0 (pair_of t rule).1) l w.cursor) end_of_lem
+              ∙ ap (λ (c : ℕ). walk s (under s depths) (eqb (length line)) (s.parts (pair_of t rule).0 (pair_of t rule).1) (length line) c) start
 
-        plan-is : planned ≡ walked
-        unfolding rule_plan parts_plan finishes
-        plan-is =
-            ap (λ (ps : List Part). walk s (under s depths) (eqb (length line)) ps w.limit w.cursor) parts_are
-            ∙ ap (λ (l : ℕ). walk s (under s depths) (eqb (length line)) (s.parts (pair_of t rule).0 (pair_of t rule).1) l w.cursor) end_of_lem
-            ∙ ap (λ (c : ℕ). walk s (under s depths) (eqb (length line)) (s.parts (pair_of t rule).0 (pair_of t rule).1) (length line) c) start
+          module _ {has : Pool} (used : has.used ≡ u) {r : Result Walked Stopped} {store'' : List ℕ}
+              (m : Left t (ran planned v has) there (log_of store has.used) store'' r) where
+            ran-is : ran planned v has ≡ run walked v u
+            ran-is = ap (λ (p : Plan (List Found)). run p v has.used) plan-is ∙ ap (run walked v) used
 
-        module _ {has : Pool} (used : has.used ≡ u) {r : Result Walked Stopped} {store'' : List ℕ}
-            (m : Left t (ran planned v has) there (log_of store has.used) store'' r) where
-          ran-is : ran planned v has ≡ run walked v u
-          ran-is = ap (λ (p : Plan (List Found)). run p v has.used) plan-is ∙ ap (run walked v) used
+            named-is : (x : Found) → whole_at there (log_of store has.used) x ≡ named (pair_of t rule).0 (pair_of t rule).1 x
+            unfolding chain_at
+            named-is x = λ k. (node (group_of k) (number_is k) x.0, x.1)
 
-          named-is : (x : Found) → whole_at there (log_of store has.used) x ≡ named (pair_of t rule).0 (pair_of t rule).1 x
-          unfolding chain_at
-          named-is x = λ k. (node (group_of k) (number_is k) x.0, x.1)
+            all_named : (xs : List Found) → map (whole_at there (log_of store has.used)) xs ≡ map (named (pair_of t rule).0 (pair_of t rule).1) xs
+            all_named [] = refl
+            all_named (x ∷ xs) = λ k. named-is x k ∷ all_named xs k
 
-          all_named : (xs : List Found) → map (whole_at there (log_of store has.used)) xs ≡ map (named (pair_of t rule).0 (pair_of t rule).1) xs
-          all_named [] = refl
-          all_named (x ∷ xs) = λ k. named-is x k ∷ all_named xs k
+            pub tries-again : {now : Walked} → r ≡ Ok now → length store'' ≡ 4096 → TriesDid t line sheet rules visits u₀ store₀ (i + 1) now.left now.pool.used store''
+            unfolding trial scene_of
+            tries-again {now} e z =
+                let x = reached m e in
+                let found = map (named (pair_of t rule).0 (pair_of t rule).1) x.founds in
+                index-more (trial_of t line sheet) itself 0 rules i did h rule 0 rule-is now.left now.pool.used store'' found
+                (mapped-done (named (pair_of t rule).0 (pair_of t rule).1) walked v u (sym ran-is ∙ x.done_with))
+                (subst (λ (n : ℕ). Made 0 (log_of store n) (log_of store'' now.pool.used) (map itself found)) used
+                (subst (Made 0 (log_of store has.used) (log_of store'' now.pool.used)) (all_named x.founds ∙ sym (map-id found)) x.made))
+                z x.counted
 
-          pub tries-again : {now : Walked} → r ≡ Ok now → length store'' ≡ 4096 → TriesDid t line sheet rules visits u₀ store₀ (i + 1) now.left now.pool.used store''
-          unfolding trial scene_of
-          tries-again {now} e z =
-              let x = reached m e in
-              let found = map (named (pair_of t rule).0 (pair_of t rule).1) x.founds in
-              index-more (trial_of t line sheet) itself 0 rules i did h rule 0 rule-is now.left now.pool.used store'' found
-              (mapped-done (named (pair_of t rule).0 (pair_of t rule).1) walked v u (sym ran-is ∙ x.done_with))
-              (subst (λ (n : ℕ). Made 0 (log_of store n) (log_of store'' now.pool.used) (map itself found)) used
-              (subst (Made 0 (log_of store has.used) (log_of store'' now.pool.used)) (all_named x.founds ∙ sym (map-id found)) x.made))
-              z x.counted
-
-          pub tries-stop : {stop : Stopped} → r ≡ Err stop → u₀ ≡ 0 → Tried t (run (tries s (map (pair_of t) rules)) visits 0) store'' (Err stop)
-          unfolding trial scene_of
-          tries-stop e z =
-              stopped
-              (ap (λ (p : Plan (List Match)). run p visits 0) (tries-are t line sheet rules) ∙ ap (run (each rules (trial_of t line sheet)) visits) (sym z)
-              ∙ index-stop (trial_of t line sheet) itself 0 rules i did h rule 0 rule-is
-              (mapped-stop (named (pair_of t rule).0 (pair_of t rule).1) walked v u (sym ran-is ∙ refused m e)))
+            pub tries-stop : {stop : Stopped} → r ≡ Err stop → u₀ ≡ 0 → Tried t (run (tries s (map (pair_of t) rules)) visits 0) store'' (Err stop)
+            unfolding trial scene_of
+            tries-stop e z =
+                stopped
+                (ap (λ (p : Plan (List Match)). run p visits 0) (tries-are t line sheet rules) ∙ ap (run (each rules (trial_of t line sheet)) visits) (sym z)
+                ∙ index-stop (trial_of t line sheet) itself 0 rules i did h rule 0 rule-is
+                (mapped-stop (named (pair_of t rule).0 (pair_of t rule).1) walked v u (sym ran-is ∙ refused m e)))
 
     pub tries-end : length rules ≤ i → u₀ ≡ 0 → (w : Walked) → w.left ≡ v → w.pool.used ≡ u → Tried t (run (tries s (map (pair_of t) rules)) visits 0) store (Ok w)
     tries-end h z w k e =

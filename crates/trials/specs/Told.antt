@@ -13,6 +13,7 @@ use Rattle.readings.specs.Plan.{Outcome, done, stop, room}
 use Rattle.readings.specs.Walk.{Match}
 use Rattle.readings.specs.Records.{pair_of}
 use Rattle.readings.specs.Call.{Accepted, budget_fits, base_fits, call_with}
+use Rattle.places.specs.declared.RulePlace.{RulePlace}
 use Rattle.places.specs.Places.{Placed}
 use Rattle.pool.specs.declared.Pool.{Pool}
 use Rattle.pool.specs.Log.{log_of}
@@ -73,10 +74,10 @@ pub data Chosen (t line rules : List ℕ) : Type 0 where
 
 -- what trying rules asks: accepted input, an empty pool's store, rules of the table that were prepared. The walk counts places
 -- from the line's start.
-pub record TryAsked (t line sheet starts places store rules : List ℕ) (visits : ℕ) : Type 0 where
+pub record TryAsked (t line sheet starts : List ℕ) (places : List RulePlace) (store rules : List ℕ) (visits : ℕ) : Type 0 where
   pub accepted : Accepted t line sheet visits 0
   pub begins : starts ≡ starts_of t
-  pub placed : Placed t places rules (length rules)
+  pub placed : Placed t places rules
   pub sized : length store ≡ room
   pub below : (i : ℕ) → i < length rules → get_or rules i 0 < records_in t
 
@@ -107,11 +108,11 @@ pub record TellAsked (t store : List ℕ) (used base : ℕ) : Type 0 where
   pub words : length (answer_words (scene_of t [] []) (trees_in store used)) ≤ 12589058
 
 -- what reading a line asks: accepted input, and the rules of scan or lookup, prepared
-pub record ReadAsked (t line sheet starts places store rules : List ℕ) (budget base : ℕ) : Type 0 where
+pub record ReadAsked (t line sheet starts : List ℕ) (places : List RulePlace) (store rules : List ℕ) (budget base : ℕ) : Type 0 where
   pub table : table_fits t ≡ true
   pub lined : LineAccepted line sheet budget base
   pub begins : starts ≡ starts_of t
-  pub placed : Placed t places rules (length rules)
+  pub placed : Placed t places rules
   pub chosen : Chosen t line rules
   pub sized : length store ≡ room
 

@@ -21,7 +21,7 @@ ghost use Rattle.trials.specs.Told.{says, checked_of, TryAsked, Tried, TellAsked
 use defs::ruledef;
 use leads;
 use line::BadLine;
-use places;
+use places::RulePlace;
 use pool::Pool;
 use syntax::walker::Walker;
 use useful;
@@ -80,18 +80,17 @@ pub enum Order {
 pub fn lead_rules(
     table: &[u16],
     starts: &[u16],
-    places: &[u16],
+    places: &[RulePlace],
     rules: &[u16],
-    count: usize,
     order: Order,
     leads: &mut [u32],
 )
-    requires { LeadAsked table.now starts.now places.now rules.now leads.old count }
-    ensures answers { Led table.now (LedFor order table.now rules.now count) leads.old leads.new }
+    requires { LeadAsked table.now starts.now places.now rules.now leads.old }
+    ensures answers { Led table.now (LedFor order table.now rules.now) leads.old leads.new }
 {
     leads::lead_nested(table, starts, leads);
     match order {
-        Order::Scan => leads::lead_listed(table, places, rules, count, leads),
+        Order::Scan => leads::lead_listed(table, places, rules, leads),
         Order::Lookup => {}
     }
 }
@@ -127,7 +126,7 @@ fn scans(order: Order) -> bool
 // that fails in its leading exact parts takes no walk to count.
 fn try_rules(
     lent: &Lent,
-    places: &[u16],
+    places: &[RulePlace],
     store: &mut [usize],
     rules: &[u16],
     order: Order,
@@ -155,12 +154,12 @@ fn try_rules(
             so_far.left -= fails;
             continue;
         }
-        let at = places::WORDS * rule;
+        let here = places[rule];
         let place = Place {
-            set: places[at] as usize,
-            rule: places[at + places::NUMBER] as usize,
-            at: places[at + places::FROM] as usize,
-            end: places[at + places::TO] as usize,
+            set: here.set as usize,
+            rule: here.number as usize,
+            at: here.from as usize,
+            end: here.to as usize,
             depth: 0,
             args: 0,
         };
@@ -219,7 +218,7 @@ pub fn read_line(
     base: u32,
     starts: &[u16],
     leads: &[u32; ruledef::MOST_RULES],
-    places: &[u16],
+    places: &[RulePlace],
     rules: &[u16],
     order: Order,
     store: &mut [usize],

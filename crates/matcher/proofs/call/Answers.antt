@@ -2,10 +2,9 @@
 use mathlib.Core.Path.{refl}
 use mathlib.Core.List.{[]}
 use native.Mathlib.Omega.{arith}
-use lib.ListN.{replicate}
 use Rattle.std.proofs.lemmas.Result.{err_from_is_err_and}
 use Rattle.trials.proofs.Checks.{accepted-by}
-use Rattle.trials.proofs.Choices.{chosen-places, placed_first}
+use Rattle.trials.proofs.Choices.{chosen-places}
 use Rattle.trials.proofs.Leading.{lead-asked, leads-none}
 use Rattle.leads.proofs.Laying.{leads-more}
 use Rattle.trials.proofs.Ordered.{table-refused, line_refused, chosen_by, line-told}
@@ -21,15 +20,13 @@ returns-in_err-check c =
 
 pub place_rules-requires : goal.place_rules-requires
 place_rules-requires c =
-    chosen-places _ _ (cc) _ _ _ _ c.ruleset_starts-starts.ensures.answers
-    (chosen_by c.args.order _ c.args.line.now c.args.sheet.now 0 0 [] (cc) _ c.rules_to_try-count.ensures.rules_after)
-    (omega (arith, c.rules_to_try-count.ensures.upper_bound, c.rules_to_try-count.auto)) refl
+    chosen-places _ _ (cc) _ _ _ c.ruleset_starts-starts.ensures.answers
+    (chosen_by c.args.order _ c.args.line.now c.args.sheet.now 0 0 [] (cc) _ c.rules_to_try-count.ensures.rules_after) refl
 
 pub lead_rules-requires : goal.lead_rules-requires
-lead_rules-requires c = lead-asked {places₀ = replicate 2048 0}
-    (chosen-places _ _ (cc) _ _ _ _ c.ruleset_starts-starts.ensures.answers
+lead_rules-requires c =
+    lead-asked c.args.line.now (cc) c.ruleset_starts-starts.ensures.answers
     (chosen_by c.args.order _ c.args.line.now c.args.sheet.now 0 0 [] (cc) _ c.rules_to_try-count.ensures.rules_after)
-    (omega (arith, c.rules_to_try-count.ensures.upper_bound, c.rules_to_try-count.auto)) refl)
     c.place_rules.ensures.answers refl
 
 pub read_line-requires-clause-read_asked : goal.read_line-requires-clause-read_asked
@@ -37,7 +34,7 @@ read_line-requires-clause-read_asked c = record {
   table = cc;
   lined = accepted-by _ _ _ _ c.check.ensures.answers c.in_ok-check.was;
   begins = c.ruleset_starts-starts.ensures.answers;
-  placed = placed_first _ _ (omega (arith, c.rules_to_try-count.ensures.upper_bound, c.rules_to_try-count.auto)) c.place_rules.ensures.answers;
+  placed = c.place_rules.ensures.answers;
   chosen = chosen_by c.args.order _ c.args.line.now c.args.sheet.now 0 0 [] (cc) _ c.rules_to_try-count.ensures.rules_after;
   sized = refl;
 }
