@@ -14,6 +14,8 @@ ghost use Rattle.pool.specs.Counted.{Counted};
 ghost use Rattle.answer.specs.Measured.{trees_in, trees_to, Bounded, FitFrom, measured, OneMore};
 ghost use Rattle.plain.specs.Buffers.{at_start};
 
+use pool::Records;
+
 // How many matches the answer has, their exact count, and how many words it takes.
 #[derive(Clone, Copy)]
 pub struct Measure {
@@ -35,6 +37,7 @@ pub fn measure_answer(table: &[u16], store: &[usize], used: usize) -> Measure
     requires bounded { Bounded table.now store.now used }
     ensures answers { result ≡ measured table.now (trees_in store.now used) }
 {
+    let records = Records { store, used };
     let mut found = Measure {
         matches: 0,
         greatest: 0,
@@ -42,7 +45,7 @@ pub fn measure_answer(table: &[u16], store: &[usize], used: usize) -> Measure
     };
     for m in 0..used {
         if pool::depth_at(store, m) == Some(TOP) {
-            found = add_match(table, store, used, m, found);
+            found = add_match(table, records, m, found);
         }
     }
     found
@@ -50,15 +53,15 @@ pub fn measure_answer(table: &[u16], store: &[usize], used: usize) -> Measure
 
 // The measure with one match more, after those of earlier records: a greater count starts anew, an equal one adds, a
 // lesser one changes nothing. The first match is kept whatever its count, which is at least 0.
-fn add_match(table: &[u16], store: &[usize], used: usize, m: usize, found: Measure) -> Measure
-    requires { OneMore table.now store.now used m found }
-    ensures { result ≡ measured table.now (trees_to store.now used (m + 1)) }
+fn add_match(table: &[u16], records: Records, m: usize, found: Measure) -> Measure
+    requires { OneMore table.now records.store.now records.used m found }
+    ensures { result ≡ measured table.now (trees_to records.entry.store.now records.entry.used (m + 1)) }
 {
-    let count = pool::count_at(store, m);
+    let count = pool::count_at(records.store, m);
     if count < found.greatest {
         return found;
     }
-    let words = words::tree_words(store, used, m);
+    let words = words::tree_words(records, m);
     if count == found.greatest {
         return Measure {
             matches: found.matches + 1,
@@ -91,6 +94,7 @@ pub fn write_answer(
     requires words_in_bounds { measure.words ≤ length answer.old }
     ensures answers { answer.new ≡ at_start (answer_words (scene_of table.now [] []) (map (moved base) (trees_in store.now used))) answer.old }
 {
+    let records = Records { store, used };
     let matches = measure.matches;
     let greatest = measure.greatest;
     answer[0] = matches as u32;
@@ -100,7 +104,7 @@ pub fn write_answer(
         if pool::depth_at(store, m) == Some(TOP) {
             let count = pool::count_at(store, m);
             if count == greatest {
-                at = words::write_tree(store, used, m, base, answer, at);
+                at = words::write_tree(records, m, base, answer, at);
             }
         }
     }

@@ -116,6 +116,8 @@ fn is_pair_odd(c: u8, l: u8, free: u8, greedy: u8) -> bool
 
 // Whether an entry of either half is odd, for start c and one of the N limits from l on. The count is fixed and no entry ends the
 // loop, so that the compiler tries them at once.
+// The sheet and the length of its line come side by side: as methods of a struct of both, with the right length for a ghost field
+// (proved), the tries of eight limits took twice as long, for lines of 8 to 14 bytes.
 fn odd_from<const N: usize>(sheet: &[u8], places: &[u8], n: usize, c: usize, l: usize) -> bool
     requires size { sized sheet.now n ≡ true }
     requires held { HeldPlaces places.now }

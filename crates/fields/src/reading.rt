@@ -49,7 +49,7 @@ impl<'a> Iterator for Fields<'a> {
     }
 }
 
-// Whether a field is a word, compared byte for byte.
+// Whether a field is a word, compared byte for byte: `==` of slices, told as `same`, by which a listing's meaning is defined.
 #[tactic(auto, using(crate::proofs::Scans::same_pointwise))]
 pub fn is_word(field: &[u8], word: &[u8]) -> bool
     ensures answers { result ≡ same field.now word.now }

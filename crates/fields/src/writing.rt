@@ -1,5 +1,6 @@
 // The fields of a listing's lines, laid into lent bytes as far as they reach. Each function gives the place after what it lays,
-// so laying into a byte measures.
+// so laying into a byte measures. Bytes and place stay two arguments: a struct of both would hold the loan of the bytes, and each
+// promise would have to say, beside `Laid`, that it is still the same loan.
 ghost use Rattle.std.specs.Prelude.{◌≡◌, true, [], ◌∷◌, ◌<◌};
 ghost use Rattle.packing.specs.Data.{is_part_of};
 ghost use Rattle.printing.specs.Listing.{decimal, part_field};

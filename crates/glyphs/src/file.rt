@@ -11,6 +11,7 @@ use std::{fs, io};
 const PATH: usize = 4_096;
 
 // The system's numbers for an argument that is missing, a name that is too long, and one that is no UTF-8, which no path is.
+// Numbers and no enum, since std's error is made from one.
 const MISSING: i32 = 22;
 
 const TOO_LONG: i32 = 36;
@@ -70,7 +71,7 @@ fn read_at<S: Files, W: Write>(
 }
 
 // A short count is no end: each turn reads a byte at least, or finds the end. Where the room is full, one more read tells
-// whether something is left.
+// whether something is left. The loop is a `while` and no `for`, since how far a turn goes is the reader's to say.
 fn read_open<F: Read + Drop>(mut file: F, room: &mut [u8]) -> io::Result<File> {
     let mut bytes = 0;
     while bytes < room.len() {

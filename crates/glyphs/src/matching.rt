@@ -7,7 +7,6 @@ use crate::show::say;
 use expressions::{FillError, fill_sheet};
 use std::io;
 use std::io::Write;
-use trials::Answer;
 
 // As many visits as a call may take.
 const BUDGET: u32 = 1_000_000;
@@ -76,15 +75,20 @@ impl<'a> Line<'a> {
         let Line { text, base } = self;
         let mut found = [0u32; ROOM];
         let scan = matcher::match_instr(table.words, text, sheet, BUDGET, base, &mut found);
-        let mut again = [0u32; ROOM];
-        matcher::match_with_ruledef_map(table.words, text, sheet, BUDGET, base, &mut again);
-        match scan {
-            Answer::Matched { .. } => self.put_readings(out, table, &found, &again),
-            _ => {
-                put_refusal(out, scan, text)?;
-                Ok(Verdict::Stops)
-            }
+        if let Err(refused) = scan {
+            put_refusal(out, refused, text)?;
+            return Ok(Verdict::Stops);
         }
+        let mut again = [0u32; ROOM];
+        let lookup = matcher::match_with_ruledef_map(
+            table.words,
+            text,
+            sheet,
+            BUDGET,
+            base,
+            &mut again,
+        );
+        self.put_readings(out, table, &found, &again)
     }
 
     // Writes the readings, how many lookup found, and what is chosen among them where their encodings are known.

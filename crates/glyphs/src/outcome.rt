@@ -2,7 +2,8 @@
 // minus or none: any other expression, a name or a sum, is a guess until the last pass, and the same number then.
 use crate::rules::{Encoding, Width};
 
-// The word of a failed constraint; of a sized outcome but for its size; and what a size is multiplied by.
+// The word of a failed constraint; of a sized outcome but for its size; and what a size is multiplied by. They are the words that
+// selection takes from C.
 pub const FAILED: u32 = 2;
 
 const SIZED: u32 = 6;

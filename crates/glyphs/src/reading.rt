@@ -12,6 +12,7 @@ use std::io::Write;
 // The most words that an answer may have here.
 pub const ROOM: usize = 4_096;
 
+// An answer is words in a row, as C reads them, so their places and kinds are numbers.
 // Where the first reading begins: after the number of readings and their exact count.
 pub const FIRST: usize = 2;
 

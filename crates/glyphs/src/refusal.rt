@@ -5,33 +5,31 @@ use crate::reading::ROOM;
 use crate::show::say;
 use std::io;
 use std::io::Write;
-use trials::Answer;
+use trials::Refused;
 
 // The longest line.
 const LONGEST: usize = 120;
 
 // Writes why matching refused a line.
-pub fn put_refusal<W: Write>(out: &mut W, answer: Answer, line: &[u8]) -> io::Result<()> {
+pub fn put_refusal<W: Write>(out: &mut W, refused: Refused, line: &[u8]) -> io::Result<()> {
     say(out, b"    the build stops, ")?;
-    match answer {
-        Answer::NoMatch { .. } => say(out, b"number 1: no rule reads it\n"),
-        Answer::BadTable => say(out, b"number 2: bad table\n"),
-        Answer::BadLine { place } => put_place(out, line, place as usize),
-        Answer::BadSheet => say(out, b"number 4: bad sheet\n"),
-        Answer::BadBudget => say(out, b"number 5: bad budget\n"),
-        Answer::BadBase => say(out, b"number 19: the line begins too far on in the file\n"),
-        Answer::Spent { visits } => writeln!(
+    match refused {
+        Refused::NoMatch { .. } => say(out, b"number 1: no rule reads it\n"),
+        Refused::BadTable => say(out, b"number 2: bad table\n"),
+        Refused::BadLine { place } => put_place(out, line, place as usize),
+        Refused::BadSheet => say(out, b"number 4: bad sheet\n"),
+        Refused::BadBudget => say(out, b"number 5: bad budget\n"),
+        Refused::BadBase => say(out, b"number 19: the line begins too far on in the file\n"),
+        Refused::Spent { visits } => writeln!(
             out,
             "number 6: {visits} visits are spent, and there is more to try"
         ),
-        Answer::TooDeep { .. } => say(out, b"number 7: its rules nest deeper than 16\n"),
-        Answer::PoolFull { .. } => say(out, b"number 8: more than 4,096 records are due\n"),
-        Answer::TooLong { words, .. } => writeln!(
+        Refused::TooDeep { .. } => say(out, b"number 7: its rules nest deeper than 16\n"),
+        Refused::PoolFull { .. } => say(out, b"number 8: more than 4,096 records are due\n"),
+        Refused::TooLong { words, .. } => writeln!(
             out,
             "number 9: its readings take {words} words, more than {ROOM}"
         ),
-        // A match is no refusal, and is not lent here.
-        Answer::Matched { .. } => say(out, b"\n"),
     }
 }
 

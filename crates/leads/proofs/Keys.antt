@@ -147,6 +147,9 @@ pub parts-start : (t : List ℕ) (from to : ℕ) → PartsFilling t to (key_of (
 unfolding rule_prefix
 parts-start t from to = record { rest = filling-start (leading (parts_between t from to)) }
 
+pub parts-as : {t : List ℕ} {to whole at a b key : ℕ} → a ≡ b → PartsFilling t to whole at a key → PartsFilling t to whole at b key
+parts-as {t} {to} {whole} {at} {key = key} e p = subst (λ (n : ℕ). PartsFilling t to whole at n key) e p
+
 module _
     {t : List ℕ}
     {to whole at left key : ℕ}

@@ -1,5 +1,5 @@
 -- What the line has ahead, byte by byte: at each turn the useful place is the next of the bytes that count.
-use mathlib.Core.Path.{◌≡◌, ◌∙◌}
+use mathlib.Core.Path.{◌≡◌, subst, ◌∙◌}
 use mathlib.Core.List.{List}
 use Prim.Native.Nat.{ℕ, ◌+◌, ◌*◌, ◌-◌, ◌≤◌, ◌<◌}
 use native.Mathlib.Omega.{arith}
@@ -21,6 +21,9 @@ pub record LineFilling (line : List ℕ) (l whole c left key : ℕ) : Type 0 whe
 pub line-start : (line : List ℕ) (l c : ℕ) → c ≤ l → LineFilling line l (key_of (ahead line l c)) c 4 0
 unfolding ahead
 line-start line l c h = record { inside = h; rest = filling-start (solids_from (take l line) c) }
+
+pub line-as : {line : List ℕ} {l whole c a b key : ℕ} → a ≡ b → LineFilling line l whole c a key → LineFilling line l whole c b key
+line-as {line} {l} {whole} {c} {key = key} e p = subst (λ (n : ℕ). LineFilling line l whole c n key) e p
 
 module _ {line : List ℕ} {l whole c left key : ℕ} (before : LineFilling line l whole c left key) (within : l ≤ length line) (more : 0 < left)
     {at : ℕ} (at-is : at ≡ useful line (walker_at line l c)) where

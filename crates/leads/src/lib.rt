@@ -38,10 +38,8 @@ pub fn prefix_key(table: &[u16], from: usize, to: usize) -> usize
     ensures small { result < 4294967296 }
 {
     let mut key: usize = 0;
-    let mut left: usize = BYTES;
     let mut at = from;
-    while 0 < left {
-        left -= 1;
+    for _ in 0..BYTES {
         key = key * BASE;
         if at < to {
             let word = table[at];
@@ -66,9 +64,7 @@ fn line_key(line: &[u8], places: &[u8; useful::PLACES], walker: Walker) -> u32
     let limit = walker.limit;
     let mut cursor = walker.cursor;
     let mut key: usize = 0;
-    let mut left: usize = BYTES;
-    while 0 < left {
-        left -= 1;
+    for _ in 0..BYTES {
         key = key * BASE;
         let here = Walker { cursor, limit };
         let at = useful::next_useful_index(line, places, here);
@@ -168,7 +164,8 @@ pub fn lead_nested(table: &[u16], starts: &[u16], leads: &mut [u32])
         let from = starts[set] as usize;
         let to = starts[set + 1] as usize;
         if from < to {
-            if !ruledef::is_top_rule(table, from as u16) {
+            let nested = !ruledef::is_top_rule(table, from as u16);
+            if nested {
                 lead_between(table, from, to, leads);
             }
         }

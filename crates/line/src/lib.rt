@@ -55,8 +55,8 @@ fn is_odd(b: u8) -> bool
     (b < SPACE) | (LAST_PRINTED < b) | (b == SEMICOLON)
 }
 
-// Whether one of the sixteen bytes from a place on is odd. The count is fixed and no byte ends the loop, so that the compiler
-// tries them at once.
+// Whether one of the sixteen bytes from a place on is odd. The count is fixed, as a slice's would not be, and no byte ends the
+// loop, so that the compiler tries them at once.
 fn sixteen_odd(line: &[u8], from: usize) -> bool
     requires room { from + 16 ≤ length line.now }
     ensures plain { result ≡ false → AllowedBetween line.now from (from + 16) }

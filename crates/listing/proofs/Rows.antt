@@ -1,22 +1,14 @@
--- Words laid by the writing pass: three in a row, and those of a rule's fields, one by one.
-use mathlib.Core.Path.{◌≡◌, refl, sym, ap, ap₂, ◌∙◌, subst}
+-- Words laid by the writing pass: those of a rule's fields, one by one.
+use mathlib.Core.Path.{◌≡◌, refl, sym, ap, ◌∙◌, subst}
 use mathlib.Core.List.{List, [], ◌∷◌, ◌++◌, flat_map}
 use Rattle.std.specs.Prelude.{Option, Some}
-use Rattle.std.specs.Option.{IsSome}
-use Prim.Native.Nat.{ℕ, suc, ◌+◌, ◌≤◌, ◌<◌}
+use Prim.Native.Nat.{ℕ, ◌+◌, ◌≤◌, ◌<◌}
 use native.Mathlib.Omega.{arith}
-use lib.ListN.{length, set}
-use lib.Seq.{sets}
+use lib.ListN.{length}
 use Rattle.printing.specs.Listing.{Bytes}
 use Rattle.fields.specs.Said.{said_word}
 use Rattle.fields.proofs.Laying.{Laying}
 use Rattle.listing.specs.Packing.{AllSaid, word_or_none, words_said}
-
-pub three-laid : (table : List ℕ) (i a b c : ℕ) → set (set (set table i a) (i + 1) b) (i + 2) c ≡ sets table i (a ∷ b ∷ c ∷ [])
-three-laid table i a b c =
-    let one : i + 1 ≡ suc i = omega arith in
-    let two : i + 2 ≡ suc (suc i) = omega arith in
-    ap₂ (λ (j k : ℕ). set (set (set table i a) j b) k c) one two
 
 module _ (s : ℕ) where
   pub said-none : {fs : List Bytes} → fs ≡ [] → words_said s fs ≡ []
@@ -32,10 +24,7 @@ module _ (s : ℕ) where
   said-length [] h = refl
   said-length (f ∷ fs) h = ap (λ (o : Option ℕ). length (word_or_none o ++ words_said s fs)) h.0.1 ∙ omega (arith, said-length fs h.1)
 
-  -- the first field says a part, and the others do
-  pub said-head : {fs gs : List Bytes} {f : Bytes} (o : Option ℕ) → fs ≡ f ∷ gs → o ≡ said_word s f → AllSaid s fs → IsSome o
-  said-head o e a h = let z = subst (AllSaid s) e h in subst IsSome (sym (a ∙ z.0.1)) refl
-
+  -- the fields after the first say parts too
   pub said-tail : {fs gs : List Bytes} {f : Bytes} → fs ≡ f ∷ gs → AllSaid s fs → AllSaid s gs
   said-tail e h = (subst (AllSaid s) e h).1
 

@@ -266,9 +266,6 @@ pub from_start : (t : Bytes) → From t t 0 0 0 0
 unfolding read parts_of
 from_start t = record { so_far = nothing; counted = record { reached = inl refl; sets = refl; rules = refl; parts = refl; last = refl }; same_read = refl }
 
-pub cut-shorter : (t : Bytes) (byte : ℕ) (x y : Bytes) → Cut t byte x y → length y < length t
-cut-shorter t byte x y c = omega (arith, ap length c.is, length-append x (byte ∷ y))
-
 -- one line more, one ruleset or rule more
 lines_more : (d e : Data) (line : Bytes) → read_line d line ≡ Some e → length e.tops + length e.rules ≡ suc (length d.tops + length d.rules)
 lines_more d e line h =

@@ -49,7 +49,7 @@ fn within(table: &[u16], end: usize) -> usize
 }
 
 // The next exact part from word place `at` to before `end`, over whitespace parts; none if a parameter or the end comes
-// first.
+// first. The parts come as two places here and below, as fields of a walk's place beside others, and no Range of it is kept.
 pub fn find_lookahead_char(table: &[u16], at: usize, end: usize) -> Option<u8>
     ensures answers { result ≡ lookahead (parts_between table.now at end) }
 {

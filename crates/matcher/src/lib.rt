@@ -50,9 +50,9 @@ fn call(
     }
     trials::check(line, sheet, budget, base)?;
     let starts = ruledef::ruleset_starts(table);
-    let mut rules = [0u16; ruledef::MOST_RULES];
-    let count = rules_to_try(table, line, order, &mut rules);
-    let rules = &rules[..count];
+    let mut room = [0u16; ruledef::MOST_RULES];
+    let count = rules_to_try(table, line, order, &mut room);
+    let rules = &room[..count];
     let mut places = places::NONE;
     places::place_rules(table, &starts, rules, &mut places);
     let mut leads = [0u32; ruledef::MOST_RULES];

@@ -1,6 +1,7 @@
 -- What the pool's records mean: arguments up to one, and trees. A record says what it does through those before it, so a
 -- log is read from its start, and what a record means never changes.
 use Rattle.std.specs.Prelude.{Option, Some, None, List, [], ◌∷◌, ◌++◌, ℕ, zero, suc, ◌≤◌, ◌<◌, ◌≡◌, eqb, length, get_or}
+use Rattle.std.specs.Coded.{×_prop, Unit-prop, le_prop}
 use Rattle.plain.specs.Choice.{select}
 use Rattle.readings.specs.Tree.{Tree, node, Args, end, expr, nest}
 use Rattle.readings.specs.Plan.{room}
@@ -93,6 +94,15 @@ pub record Stored (store : List ℕ) (used : ℕ) : Type 0 where
   pub sized : length store ≡ room
   pub room : used ≤ room
   pub earlier : Earlier (log_of store used)
+
+-- links have one proof, so they may stand in a type
+InnerEarlier-prop : (n : ℕ) (k : ArgumentKind) → IsProp (InnerEarlier n k)
+InnerEarlier-prop n Expr = Unit-prop
+InnerEarlier-prop n (Nested m) = le_prop
+
+pub Links-prop : (n : ℕ) (x : Record) → IsProp (Links n x)
+Links-prop n (Kept a p x) = ×_prop le_prop (InnerEarlier-prop n a.kind)
+Links-prop n (Completed d r k a e x) = le_prop
 
 -- the entries of a store
 abbrev pub entries : List ℕ → ℕ → List Entry

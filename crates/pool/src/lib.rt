@@ -4,10 +4,11 @@
 // since each call clears it: 4,096 words take 240 ns (docs/PERFORMANCE.md, "Fixed"), and a `Record` is seven numbers.
 #![tactic(auto)]
 
+ghost use Rattle.std.proofs.Props.{props};
 ghost use Rattle.std.specs.Prelude.{◌≡◌, ◌+◌, ◌<◌, ◌≤◌, length, get_or};
 ghost use Rattle.readings.specs.Plan.{room};
 ghost use Rattle.pool.specs.Log.{code_of, kind_of, decode, ArgumentFits, MatchFits, TakenBy, Digits, depth_in, count_in};
-ghost use Rattle.pool.specs.Meaning.{Stored, HeadAt, LastAt};
+ghost use Rattle.pool.specs.Meaning.{Stored, Links-prop, HeadAt, LastAt};
 
 // What an argument is: an expression, or nested with its match's record number.
 #[derive(Clone, Copy)]
@@ -49,6 +50,14 @@ pub enum Record {
 #[derive(Clone, Copy)]
 pub struct Pool {
     pub used: usize,
+}
+
+// The records taken so far: the store, and how many of its words they are. Links are to earlier records.
+#[derive(Clone, Copy)]
+pub struct Records<'a> {
+    pub store: &'a [usize],
+    pub used: usize,
+    ghost stored: { Stored store.now used } by { Prim.hlevel (props, Links-prop) },
 }
 
 // A match as its ruleset, its rule's number there and its last argument, as in `prev`.
@@ -239,12 +248,11 @@ pub fn count_at(store: &[usize], i: usize) -> usize
 
 // The match with a record number. An argument's number, which no link to a match has, reads as rule 0 of ruleset 0, as
 // `tree_at` has it: with an `Option` each caller would have a case that never comes.
-pub fn match_at(store: &[usize], used: usize, m: usize) -> Head
-    requires stored { Stored store.now used }
-    requires m_lt_used { m < used }
-    ensures answers { HeadAt store.now used m result }
+pub fn match_at(records: Records, m: usize) -> Head
+    requires m_lt_used { m < records.used }
+    ensures answers { HeadAt records.entry.store.now records.entry.used m result }
 {
-    match record_at(store, m) {
+    match record_at(records.store, m) {
         Record::Kept { .. } => Head {
             set: 0,
             rule: 0,
@@ -260,15 +268,14 @@ pub fn match_at(store: &[usize], used: usize, m: usize) -> Head
 }
 
 // The last of the arguments up to a number, and the number of the one before it, as `prev` counts them; None if there is none.
-pub fn last_argument(store: &[usize], used: usize, args: usize) -> Option<(Argument, usize)>
-    requires stored { Stored store.now used }
-    requires args_le_used { args ≤ used }
-    ensures answers { LastAt store.now used args result }
+pub fn last_argument(records: Records, args: usize) -> Option<(Argument, usize)>
+    requires args_le_used { args ≤ records.used }
+    ensures answers { LastAt records.entry.store.now records.entry.used args result }
 {
     if args == 0 {
         return None;
     }
-    match record_at(store, args - 1) {
+    match record_at(records.store, args - 1) {
         Record::Kept { argument, prev, .. } => Some((argument, prev)),
         Record::Completed { .. } => None,
     }

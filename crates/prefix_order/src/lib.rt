@@ -29,8 +29,8 @@ fn lay_entries(table: &[u16], places: &[RulePlace], rules: &[u16], order: &mut [
     for (at, rule) in rules.iter().enumerate() {
         let rule = *rule as usize;
         let place = places[rule];
-        order[at] = leads::prefix_key(table, place.from as usize, place.to as usize) * PLACES
-            + rule;
+        let key = leads::prefix_key(table, place.from as usize, place.to as usize);
+        order[at] = key * PLACES + rule;
     }
 }
 
@@ -94,8 +94,8 @@ fn put_run(order: &[usize], begin: usize, key: usize, rules: &mut [u16], from: u
     }
 }
 
-// Writes the rules to try on a line: those of its prefix's beginnings, the shortest first, and within one length in table
-// order. A key goes along: one byte more adds that byte at its weight; and as no byte is 0 the keys ascend, so each run is
+// Writes the rules to try on a line, to the start of the room that is lent, since memory is fixed: those of its prefix's
+// beginnings, the shortest first, and within one length in table order. A key goes along: one byte more adds that byte at its weight; and as no byte is 0 the keys ascend, so each run is
 // sought from the end of the last. The table is lent for the promise alone: its order says all that is needed.
 pub fn find_rules(table: &[u16], order: &[usize], line: &[u8], rules: &mut [u16]) -> usize
     requires { FindAsked table.now order.now line.now rules.old }

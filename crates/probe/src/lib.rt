@@ -1,5 +1,6 @@
 // The ground floor behind C functions, for `oracle/`: a walker's moves, its cut, and the rules that lookup tries, each to be
-// compared with the Rust's own. Each function is one call of `syntax` or `ruledef_map`; a walker comes as its cursor and limit.
+// compared with the Rust's own. Each function is one call of `syntax` or `ruledef_map`, under the name by which C calls it, so
+// that some differ in the call alone; a walker comes as its cursor and limit.
 #![tactic(auto)]
 
 ghost use Rattle.std.specs.Prelude.{◌≡◌};
@@ -18,7 +19,8 @@ pub struct ProbeWalker {
     pub limit: usize,
 }
 
-// Whether something was found, 1 or 0, and a place: the walker's cursor, or the cut's place or 0.
+// Whether something was found, 1 or 0, and a place: the walker's cursor, or the cut's place or 0. A number and a place, and no
+// Option, since C reads them.
 #[repr(C)]
 #[derive(Clone, Copy)]
 pub struct ProbePlace {

@@ -14,8 +14,6 @@ use Rattle.defs.specs.Ruledef.{starts_of}
 use Rattle.ruledef_map.specs.RuledefMap.{top_rules}
 use Rattle.places.specs.declared.RulePlace.{RulePlace}
 use Rattle.places.specs.Places.{PlacedAt, Placed, PlaceAsked}
-use Rattle.trials.specs.Orders.{LeadAsked}
-use Rattle.trials.proofs.Leading.{lead-asked}
 use Rattle.prefix_order.specs.PrefixOrder.{entries, OrderAsked}
 use Rattle.trials.specs.declared.Order.{Order}
 use Rattle.trials.specs.declared.Order.TheVariants.{Scan}
@@ -34,33 +32,15 @@ module _ (t starts rules : List ℕ) (n : ℕ) (ok : table_fits t ≡ true) (beg
   fits : n ≤ length rules
   fits = omega (arith, long)
 
-  -- the order's start, which is lent for the entries, and the order that they leave
-  module _ (order : List ℕ) (whole : length order ≡ 512) where
-    pub start-long : length (take n order) ≡ n
-    start-long = length-take-le n order (omega arith)
-
-    module _ (new : List ℕ) (same : length new ≡ length (take n order)) where
-      pub order-long : length (new ++ drop n order) ≡ 512
-      order-long = omega (arith, length-append new (drop n order), length-drop n order, start-long)
-
-      pub order-starts : take n (new ++ drop n order) ≡ new
-      order-starts = take_at new (drop n order) n (same ∙ start-long)
+  long_first : length (take n rules) ≡ n
+  long_first = length-take-le n rules fits
 
   pub place-asked : (places : List RulePlace) → length places ≡ 512 → PlaceAsked t starts (take n rules) places
   place-asked places sized = chosen-places t [] ok starts (take n rules) places begins (all_tops tops) sized
 
   module _ (places : List RulePlace) (placed : Placed t places (take n rules)) where
-    pub top-leads-asked : (leads : List ℕ) → length leads ≡ 512 → LeadAsked t starts places (take n rules) leads
-    top-leads-asked leads sized = lead-asked [] ok begins (all_tops tops) placed sized
-
     pub order-asked : (order spare : List ℕ) → length order ≡ n → length spare ≡ 512 → OrderAsked t places (take n rules) order spare
-    order-asked order spare room aside = record {
-      table = ok;
-      top = tops;
-      placed = placed;
-      room = room ∙ sym (length-take-le n rules fits);
-      aside = omega arith;
-    }
+    order-asked order spare room aside = record { table = ok; top = tops; placed = placed; room = omega (arith, room, long_first); aside = omega (arith, room, aside, few) }
 
     prepared : Prepared t starts places
     prepared = record {
@@ -77,8 +57,15 @@ module _ (t starts rules : List ℕ) (n : ℕ) (ok : table_fits t ≡ true) (beg
         ordered = record { room = long; long = room; few = few; listed = λ _. tops; sorted = λ q. absurd (orders-apart (sym e ∙ q)) };
       }
 
-      pub lookup-ready : take n order ≡ entries t → Ready how t starts places order rules n
-      lookup-ready e = record {
+      -- the entries stand at the order's start
+      pub lookup-ready : (sorted : List ℕ) → length sorted ≡ n → sorted ≡ entries t → Ready how t starts places (sorted ++ drop n order) rules n
+      lookup-ready sorted many e = record {
         prepared = prepared;
-        ordered = record { room = long; long = room; few = few; listed = λ _. tops; sorted = λ _. e };
+        ordered = record {
+          room = long;
+          long = omega (arith, length-append sorted (drop n order), length-drop n order, many, room, few);
+          few = few;
+          listed = λ _. tops;
+          sorted = λ _. take_at sorted (drop n order) n many ∙ e;
+        };
       }

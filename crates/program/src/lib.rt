@@ -102,17 +102,22 @@ impl Groundwork {
     {
         let starts = ruledef::ruleset_starts(table);
         let tops = ruledef_map::top_rules(table, rules);
-        let listed = &rules[..tops];
         let mut places = places::NONE;
-        places::place_rules(table, &starts, listed, &mut places);
+        places::place_rules(table, &starts, &rules[..tops], &mut places);
         let mut leads = [0u32; ruledef::MOST_RULES];
-        trials::lead_rules(table, &starts, &places, listed, how, &mut leads);
+        trials::lead_rules(table, &starts, &places, &rules[..tops], how, &mut leads);
         let mut order = [0usize; ruledef::MOST_RULES];
         match how {
             Order::Scan => {}
             Order::Lookup => {
                 let mut spare = [0usize; ruledef::MOST_RULES];
-                prefix_order::order_rules(table, &places, listed, &mut order[..tops], &mut spare);
+                prefix_order::order_rules(
+                    table,
+                    &places,
+                    &rules[..tops],
+                    &mut order[..tops],
+                    &mut spare,
+                );
             }
         }
         Groundwork {

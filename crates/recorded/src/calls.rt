@@ -1,10 +1,8 @@
-// A call: its parts are read one by one, each into an array of its own, and then it is made. A function here that returns
-// a bool says whether to go on: a part that its array has no room for stops the replay.
-ghost use Rattle.std.specs.Prelude.{◌≡◌, ◌≤◌, length, min, take};
-
+// A call: its parts are read one by one, each into an array of its own, and then it is made. A part that its array has no room
+// for stops the replay.
 use crate::input::{read_line, read_list, read_sheet};
 use crate::output::{tell, tell_selection};
-use sample::{at_most, copy_name, length, number, read_words, say, words_of};
+use sample::{Stop, copy_name, length, number, read_words, room_of, say};
 use std::io;
 use std::io::{Read, Write};
 use tholdrimash::TholdrimashAnswer;
@@ -31,18 +29,55 @@ const NO_INDEX: u16 = 65_535;
 // An entry of a sheet that has no end.
 const NO_END: u8 = 255;
 
+// What a call does, as its first number says.
+#[derive(Clone, Copy)]
+enum How {
+    Match(Find),
+    Select(Pass),
+}
+
+// How a match's rules are found.
+#[derive(Clone, Copy)]
+enum Find {
+    Scan,
+    Lookup,
+}
+
+// Which pass a selection is made on.
+#[derive(Clone, Copy)]
+enum Pass {
+    Guessing,
+    Last,
+}
+
+struct NoSuchCall;
+
+impl TryFrom<u32> for How {
+    type Error = NoSuchCall;
+
+    fn try_from(number: u32) -> Result<How, NoSuchCall> {
+        match number {
+            0 => Ok(How::Match(Find::Scan)),
+            1 => Ok(How::Match(Find::Lookup)),
+            2 => Ok(How::Select(Pass::Guessing)),
+            3 => Ok(How::Select(Pass::Last)),
+            _ => Err(NoSuchCall),
+        }
+    }
+}
+
 // What a matching call has beside a table, a line and a sheet.
 #[derive(Clone, Copy)]
 struct Asked {
-    lookup: bool,
+    find: Find,
     budget: u32,
     base: u32,
     room: usize,
 }
 
-fn too_long<W: Write>(out: &mut W) -> io::Result<bool> {
+fn too_long<W: Write>(out: &mut W) -> Result<(), Stop> {
     say(out, b" too long\n")?;
-    Ok(false)
+    Err(Stop::End)
 }
 
 fn answer(
@@ -52,17 +87,11 @@ fn answer(
     sheet: &[u8],
     buffer: &mut [u32],
 ) -> TholdrimashAnswer {
-    if asked.lookup {
-        return tholdrimash::tholdrimash_lookup(
-            table,
-            line,
-            sheet,
-            asked.budget,
-            asked.base,
-            buffer,
-        );
+    let Asked { budget, base, .. } = asked;
+    match asked.find {
+        Find::Scan => tholdrimash::tholdrimash_match(table, line, sheet, budget, base, buffer),
+        Find::Lookup => tholdrimash::tholdrimash_lookup(table, line, sheet, budget, base, buffer),
     }
-    tholdrimash::tholdrimash_match(table, line, sheet, asked.budget, asked.base, buffer)
 }
 
 fn matching<W: Write>(
@@ -77,29 +106,20 @@ fn matching<W: Write>(
     tell(out, answer, buffer)
 }
 
-// So many words of an answer's buffer, or all that it has.
-fn room_of(buffer: &[u32], wanted: usize) -> usize
-    ensures value { result ≡ min wanted (length buffer.now) }
-    ensures bound { result ≤ length buffer.now }
-    ensures prefix { result ≡ length (take result buffer.now) }
-{
-    at_most(wanted, buffer.len())
-}
-
 fn with_sheet<W: Write>(
     out: &mut W,
     asked: Asked,
     table: &[u16],
     line: &[u8],
     sheet: &[u8],
-) -> io::Result<bool> {
+) -> Result<(), Stop> {
     let mut buffer = [UNTOUCHED; ANSWER];
     let n = room_of(&buffer, asked.room);
     if n < asked.room {
         return too_long(out);
     }
     matching(out, asked, table, line, sheet, &mut buffer[..n])?;
-    Ok(true)
+    Ok(())
 }
 
 fn with_line<R: Read, W: Write>(
@@ -108,7 +128,7 @@ fn with_line<R: Read, W: Write>(
     asked: Asked,
     table: &[u16],
     line: &[u8],
-) -> io::Result<bool> {
+) -> Result<(), Stop> {
     let mut sheet = [NO_END; SHEET];
     let wanted = length(input)?;
     let n = read_sheet(input, &mut sheet, wanted)?;
@@ -123,7 +143,7 @@ fn with_table<R: Read, W: Write>(
     out: &mut W,
     asked: Asked,
     table: &[u16],
-) -> io::Result<bool> {
+) -> Result<(), Stop> {
     let mut line = [0u8; LINE];
     let wanted = length(input)?;
     let n = read_line(input, &mut line, wanted)?;
@@ -133,7 +153,7 @@ fn with_table<R: Read, W: Write>(
     with_line(input, out, asked, table, &line[..n])
 }
 
-fn with_asked<R: Read, W: Write>(input: &mut R, out: &mut W, asked: Asked) -> io::Result<bool> {
+fn with_asked<R: Read, W: Write>(input: &mut R, out: &mut W, asked: Asked) -> Result<(), Stop> {
     let mut table = [0u16; TABLE];
     let wanted = length(input)?;
     let n = read_words(input, &mut table, wanted)?;
@@ -143,13 +163,12 @@ fn with_asked<R: Read, W: Write>(input: &mut R, out: &mut W, asked: Asked) -> io
     with_table(input, out, asked, &table[..n])
 }
 
-// A full scan or a lookup.
-fn match_call<R: Read, W: Write>(input: &mut R, out: &mut W, lookup: bool) -> io::Result<bool> {
+fn match_call<R: Read, W: Write>(input: &mut R, out: &mut W, find: Find) -> Result<(), Stop> {
     let budget = number(input)?;
     let base = number(input)?;
     let room = length(input)?;
     let asked = Asked {
-        lookup,
+        find,
         budget,
         base,
         room,
@@ -159,31 +178,34 @@ fn match_call<R: Read, W: Write>(input: &mut R, out: &mut W, lookup: bool) -> io
 
 fn select<W: Write>(
     out: &mut W,
-    last: u32,
+    pass: Pass,
     list: &mut [u32],
     buffer: &mut [u16],
 ) -> io::Result<()> {
+    let last = match pass {
+        Pass::Guessing => 0,
+        Pass::Last => 1,
+    };
     let selection = tholdrimash::tholdrimash_select(list, last, buffer);
     tell_selection(out, selection, list, buffer)
 }
 
 fn with_list<W: Write>(
     out: &mut W,
-    last: u32,
+    pass: Pass,
     wanted: usize,
     list: &mut [u32],
-) -> io::Result<bool> {
+) -> Result<(), Stop> {
     let mut buffer = [NO_INDEX; CHOICE];
-    let n = words_of(&buffer, wanted);
+    let n = room_of(&buffer, wanted);
     if n < wanted {
         return too_long(out);
     }
-    select(out, last, list, &mut buffer[..n])?;
-    Ok(true)
+    select(out, pass, list, &mut buffer[..n])?;
+    Ok(())
 }
 
-// A selection. `last` is 0 on a guessing pass.
-fn select_call<R: Read, W: Write>(input: &mut R, out: &mut W, last: u32) -> io::Result<bool> {
+fn select_call<R: Read, W: Write>(input: &mut R, out: &mut W, pass: Pass) -> Result<(), Stop> {
     let room = length(input)?;
     let mut list = [0u32; LIST];
     let wanted = length(input)?;
@@ -191,23 +213,18 @@ fn select_call<R: Read, W: Write>(input: &mut R, out: &mut W, last: u32) -> io::
     if n < wanted {
         return too_long(out);
     }
-    with_list(out, last, room, &mut list[..n])
+    with_list(out, pass, room, &mut list[..n])
 }
 
-// The next call, if there is one.
-pub fn replay<R: Read, W: Write>(input: &mut R, out: &mut W) -> io::Result<bool> {
-    if !copy_name(input, out)? {
-        return Ok(false);
-    }
-    let how = number(input)?;
-    match how {
-        0 => match_call(input, out, false),
-        1 => match_call(input, out, true),
-        2 => select_call(input, out, 0),
-        3 => select_call(input, out, 1),
-        _ => {
+// The next call.
+pub fn replay<R: Read, W: Write>(input: &mut R, out: &mut W) -> Result<(), Stop> {
+    copy_name(input, out)?;
+    match How::try_from(number(input)?) {
+        Ok(How::Match(find)) => match_call(input, out, find),
+        Ok(How::Select(pass)) => select_call(input, out, pass),
+        Err(NoSuchCall) => {
             say(out, b" no such call\n")?;
-            Ok(false)
+            Err(Stop::End)
         }
     }
 }

@@ -2,20 +2,13 @@
 ghost use Rattle.std.specs.Prelude.{◌≡◌, length, min, IfOk, OnErr};
 ghost use Rattle.std.specs.Io.{ReadsAtMost};
 
-use sample::{at_most, length, number};
+use sample::{length, number, read_items, room_of};
 use std::io;
 use std::io::Read;
 
-// The largest number of 8 bits.
-const MOST_8: u32 = 255;
-
-fn number_8<R: Read>(input: &mut R) -> io::Result<u8> {
-    let n = number(input)?;
-    if n <= MOST_8 {
-        Ok(n as u8)
-    } else {
-        Ok(u8::MAX)
-    }
+// A number as a byte; one too large for it counts as the largest.
+fn as_byte(n: u32) -> u8 {
+    u8::try_from(n).unwrap_or(u8::MAX)
 }
 
 // Reads so many bytes to a line's start, and gives for how many there was room.
@@ -24,11 +17,7 @@ pub fn read_line<R: Read>(input: &mut R, line: &mut [u8], wanted: usize) -> io::
     ensures bound { ReadsAtMost result line.new }
     ensures err { OnErr result (length line.new ≡ length line.old) }
 {
-    let n = at_most(wanted, line.len());
-    for byte in &mut line[..n] {
-        *byte = number_8(input)?;
-    }
-    Ok(n)
+    read_items(input, line, wanted, as_byte)
 }
 
 // The same of outcome words.
@@ -37,19 +26,15 @@ pub fn read_list<R: Read>(input: &mut R, list: &mut [u32], wanted: usize) -> io:
     ensures bound { ReadsAtMost result list.new }
     ensures err { OnErr result (length list.new ≡ length list.old) }
 {
-    let n = at_most(wanted, list.len());
-    for word in &mut list[..n] {
-        *word = number(input)?;
-    }
-    Ok(n)
+    read_items(input, list, wanted, |n| n)
 }
 
 // Reads a place of the sheet and the end that stands there.
 fn read_entry<R: Read>(input: &mut R, sheet: &mut [u8]) -> io::Result<()> {
     let place = length(input)?;
-    let end = number_8(input)?;
-    if place < sheet.len() {
-        sheet[place] = end;
+    let end = as_byte(number(input)?);
+    if let Some(entry) = sheet.get_mut(place) {
+        *entry = end;
     }
     Ok(())
 }
@@ -60,9 +45,8 @@ pub fn read_sheet<R: Read>(input: &mut R, sheet: &mut [u8], wanted: usize) -> io
     ensures bound { ReadsAtMost result sheet.new }
     ensures err { OnErr result (length sheet.new ≡ length sheet.old) }
 {
-    let entries = number(input)?;
-    for _ in 0..entries {
+    for _ in 0..number(input)? {
         read_entry(input, sheet)?;
     }
-    Ok(at_most(wanted, sheet.len()))
+    Ok(room_of(sheet, wanted))
 }

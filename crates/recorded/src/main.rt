@@ -15,6 +15,7 @@ mod calls;
 mod input;
 mod output;
 
+use sample::Stop;
 use std::io;
 use std::io::Write;
 
@@ -22,8 +23,10 @@ fn main(rt: HostRuntime) -> io::Result<()> {
     let mut input = rt.reader();
     let mut out = io::writer(&rt);
     for _ in 0..sample::TURNS {
-        if !calls::replay(&mut input, &mut out)? {
-            break;
+        match calls::replay(&mut input, &mut out) {
+            Ok(()) => {}
+            Err(Stop::End) => break,
+            Err(Stop::Io(error)) => return Err(error),
         }
     }
     out.flush()

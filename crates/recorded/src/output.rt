@@ -4,22 +4,10 @@ use std::io;
 use std::io::Write;
 use tholdrimash::{TholdrimashAnswer, TholdrimashSelection};
 
-fn put_word<W: Write>(out: &mut W, word: u16) -> io::Result<()> {
-    put(out, word as u32)
-}
-
-// Writes the words of a choice's buffer, all of them: the indices chosen and the words that they leave.
-fn put_buffer<W: Write>(out: &mut W, buffer: &[u16]) -> io::Result<()> {
-    for word in buffer {
-        put_word(out, *word)?;
-    }
-    Ok(())
-}
-
-// The same of outcome words and of an answer's buffer.
-fn put_list<W: Write>(out: &mut W, list: &[u32]) -> io::Result<()> {
+// Writes the numbers of a list, all of them: outcome words, an answer's words, or the indices chosen and the words that they leave.
+fn put_list<W: Write, T: Copy + Into<u32>>(out: &mut W, list: &[T]) -> io::Result<()> {
     for word in list {
-        put(out, *word)?;
+        put(out, (*word).into())?;
     }
     Ok(())
 }
@@ -47,6 +35,6 @@ pub fn tell_selection<W: Write>(
     say(out, b" |")?;
     put_list(out, list)?;
     say(out, b" |")?;
-    put_buffer(out, buffer)?;
+    put_list(out, buffer)?;
     say(out, b"\n")
 }

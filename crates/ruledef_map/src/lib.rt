@@ -14,7 +14,7 @@ use defs::ruledef::Part;
 
 const MAX_PREFIX_SIZE: usize = 4;
 
-// The first bytes of a line or a rule, lowered; 0 past their count.
+// The first bytes of a line or a rule, lowered; 0 past their count. Memory is fixed, so it holds all four.
 #[derive(Clone, Copy)]
 pub struct Prefix {
     pub bytes: [u8; 4],
@@ -74,7 +74,8 @@ fn prefix_length(table: &[u16], rule: u16, prefix: Prefix) -> u8
     same
 }
 
-// Writes the top rules, by their places in the table and in its order, to the buffer's start.
+// Writes the top rules, by their places in the table and in its order, to the start of the buffer that is lent, since memory is
+// fixed.
 pub fn top_rules(table: &[u16], found: &mut [u16]) -> usize
     ensures answers { (found.new, result) ≡ put_rules table.now (top_rules table.now) found.old }
 {

@@ -3,7 +3,7 @@
 // a program lends its own, over standard input and output. An error of either is passed on.
 #![tactic(auto)]
 
-ghost use Rattle.std.specs.Prelude.{◌≡◌, ◌+◌, ◌*◌, ◌-◌, ◌^◌, ◌≤◌, ◌++◌, length, take, drop, min, slice_index, codes, decimal, Some, IfSome, IfOk, OnOk, OnErr};
+ghost use Rattle.std.specs.Prelude.{◌≡◌, ◌+◌, ◌≤◌, ◌++◌, length, take, drop, min, slice_index, if◌then◌else◌, ◌==◌, codes, decimal, None, Some, IfSome, IfOk, OnOk, OnErr};
 ghost use Rattle.std.specs.Io.{ReadsAtMost};
 ghost use Rattle.std.specs.Io.KnownBytes.{Appends};
 
@@ -14,16 +14,18 @@ use std::io::{Read, Write};
 // run uses up.
 pub const TURNS: u64 = u64::MAX;
 
-// What every digit is below.
-const TEN: u32 = 10;
+// Why a replay stops: no case comes, or none can be replayed any more; or reading or writing fails.
+#[derive(Debug, Drop)]
+pub enum Stop {
+    End,
+    Io(io::Error),
+}
 
-// The largest numbers of 32 and 16 bits.
-const MOST: u64 = 4_294_967_295;
-
-const MOST_16: u32 = 65_535;
-
-// What stands for the end of the input: a byte that no case has.
-pub const END: u8 = 0;
+impl From<io::Error> for Stop {
+    fn from(error: io::Error) -> Stop {
+        Stop::Io(error)
+    }
+}
 
 pub fn say<W: Write>(out: &mut W, text: &[u8]) -> io::Result<()>
     ensures { OnOk result (Appends (W.contents out.old) (W.contents out.new) text.now) }
@@ -39,62 +41,56 @@ pub fn put<W: Write>(out: &mut W, n: u32) -> io::Result<()>
     write!(out, " {n}")
 }
 
-// The next byte, or the end.
-pub fn byte<R: Read>(input: &mut R) -> io::Result<u8>
-    ensures next { IfOk result (λ b. IfSome (R.remaining input.old) (λ xs. b ≡ slice_index xs 0)) }
+// The next byte, if the input has one. A byte 0, which no case has, ends it as well.
+pub fn byte<R: Read>(input: &mut R) -> io::Result<Option<u8>>
+    ensures next { IfOk result (λ b. IfSome (R.remaining input.old) (λ xs. b ≡ (if slice_index xs 0 == 0 then None else Some (slice_index xs 0)))) }
     ensures rest { OnOk result (IfSome (R.remaining input.old)
         (λ xs. R.remaining input.new ≡ Some (drop 1 xs))) }
 {
-    let mut one = [END; 1];
+    let mut one = [0u8; 1];
     let count = input.read(&mut one)?;
-    if count == 1 { Ok(one[0]) } else { Ok(END) }
+    if count == 1 && one[0] != 0 {
+        Ok(Some(one[0]))
+    } else {
+        Ok(None)
+    }
 }
 
-// Copies a case's name to the output, with its colon. False if the input ends before it.
-pub fn copy_name<R: Read, W: Write>(input: &mut R, out: &mut W) -> io::Result<bool> {
+// Copies a case's name to the output, with its colon. The replay ends if the input does before it.
+pub fn copy_name<R: Read, W: Write>(input: &mut R, out: &mut W) -> Result<(), Stop> {
     for _ in 0..TURNS {
-        let b = byte(input)?;
-        if b == END {
-            return Ok(false);
-        }
+        let Some(b) = byte(input)? else {
+            return Err(Stop::End);
+        };
         say(out, &[b])?;
         if b == b':' {
-            return Ok(true);
+            return Ok(());
         }
     }
-    Ok(false)
+    Err(Stop::End)
 }
 
-// The value of a digit, or ten of any other byte.
-fn digit(b: u8) -> u32 {
+fn digit(b: u8) -> Option<u32> {
     match b {
-        b'0'..=b'9' => (b - b'0') as u32,
-        _ => TEN,
+        b'0'..=b'9' => Some(u32::from(b - b'0')),
+        _ => None,
     }
-}
-
-fn with_digit(n: u32, digit: u32) -> u32
-    ensures { result ≡ min (n * 10 + digit) (2 ^ 32 - 1) }
-{
-    let more = n as u64 * TEN as u64 + digit as u64;
-    if more <= MOST { more as u32 } else { u32::MAX }
 }
 
 // The next number. Spaces before it are passed over, and the byte that ends it is read too.
 pub fn number<R: Read>(input: &mut R) -> io::Result<u32> {
-    let mut n: u32 = 0;
-    let mut begun = false;
+    let mut n: Option<u32> = None;
     for _ in 0..TURNS {
-        let b = byte(input)?;
-        let value = digit(b);
-        if value < TEN {
-            n = with_digit(n, value);
-            begun = true;
-        } else if begun || b != b' ' {
-            return Ok(n);
+        let Some(b) = byte(input)? else {
+            break;
+        };
+        if let Some(value) = digit(b) {
+            n = Some(n.unwrap_or(0).saturating_mul(10).saturating_add(value));
+        } else if n.is_some() || b != b' ' {
+            break;
         }
     }
-    Ok(n)
+    Ok(n.unwrap_or(0))
 }
 
 pub fn length<R: Read>(input: &mut R) -> io::Result<usize> {
@@ -102,29 +98,32 @@ pub fn length<R: Read>(input: &mut R) -> io::Result<usize> {
     Ok(n as usize)
 }
 
-fn number_16<R: Read>(input: &mut R) -> io::Result<u16> {
-    let n = number(input)?;
-    if n <= MOST_16 {
-        Ok(n as u16)
-    } else {
-        Ok(u16::MAX)
-    }
-}
-
-pub fn at_most(a: usize, b: usize) -> usize
-    ensures value { result ≡ min a b }
-    ensures bound { result ≤ b }
-{
-    if a <= b { a } else { b }
-}
-
-// So many words of a room, or all that it has.
-pub fn words_of(room: &[u16], wanted: usize) -> usize
+// So many items of a room, or all that it has.
+pub fn room_of<T>(room: &[T], wanted: usize) -> usize
     ensures value { result ≡ min wanted (length room.now) }
     ensures bound { result ≤ length room.now }
     ensures prefix { result ≡ length (take result room.now) }
 {
-    at_most(wanted, room.len())
+    wanted.min(room.len())
+}
+
+// Reads so many numbers to a room's start, each as an item, and gives for how many there was room.
+pub fn read_items<R: Read, T: Copy, F: Fn(u32) -> T>(
+    input: &mut R,
+    room: &mut [T],
+    wanted: usize,
+    item: F,
+) -> io::Result<usize>
+    requires { F.IsAlwaysCallable item }
+    ensures value { IfOk result (λ n. n ≡ min wanted (length room.old)) }
+    ensures bound { IfOk result (λ n. n ≤ length room.new) }
+    ensures err { OnErr result (length room.new ≡ length room.old) }
+{
+    let n = room_of(room, wanted);
+    for place in &mut room[..n] {
+        *place = item(number(input)?);
+    }
+    Ok(n)
 }
 
 // Reads so many words to a table's start, and gives for how many there was room.
@@ -133,9 +132,6 @@ pub fn read_words<R: Read>(input: &mut R, table: &mut [u16], wanted: usize) -> i
     ensures bound { ReadsAtMost result table.new }
     ensures err { OnErr result (length table.new ≡ length table.old) }
 {
-    let n = at_most(wanted, table.len());
-    for word in &mut table[..n] {
-        *word = number_16(input)?;
-    }
-    Ok(n)
+    let word = |n: u32| u16::try_from(n).unwrap_or(u16::MAX);
+    read_items(input, table, wanted, word)
 }

@@ -30,7 +30,7 @@ pub enum Step {
 // What the search for the cut knows of the bytes that it has passed.
 #[derive(Clone, Copy)]
 pub struct Search {
-    // Some byte was no whitespace.
+    // Some byte was no whitespace. It says nothing of the nestings, so it is no Option of them.
     pub seen: bool,
     pub parens: usize,
     pub braces: usize,
@@ -163,7 +163,7 @@ impl Walker {
     }
 }
 
-// The lesser of two places.
+// The lesser of two places: the library's `min`, with the promise of it that those who call it by this name are given.
 pub fn least(a: usize, b: usize) -> usize
     ensures answers { result ≡ min a b }
 {
@@ -171,7 +171,8 @@ pub fn least(a: usize, b: usize) -> usize
 }
 
 // The first place from here to the end that holds no whitespace, or the end. The test is the caller's: a search reads the table
-// that it has laid, since `token::is_whitespace` would lay it anew for each byte of whitespace.
+// that it has laid, since `token::is_whitespace` would lay it anew for each byte of whitespace. From and end are places of the
+// line, as the definition's are: each answer of a slice `&line[from..end]` would have its beginning added again.
 fn skip_whitespace<F: Fn(u8) -> bool>(line: &[u8], from: usize, end: usize, is_blank: F) -> usize
     requires from_le_end { from ≤ end }
     requires end_in_bounds { end ≤ length line.now }
@@ -280,7 +281,7 @@ fn take_in(s: Search, class: u16) -> Turn
 }
 
 // The table is laid once for the search, not for each byte. Whitespace before the first other byte changes nothing, so it is
-// skipped; each byte after that leaves something seen.
+// skipped; each byte after that leaves something seen. The answer is a place of the line, so that is not cut to a slice.
 fn find_cut(line: &[u8], from: usize, end: usize, wanted: u8) -> Option<usize>
     requires from_le_end { from ≤ end }
     requires end_in_bounds { end ≤ length line.now }

@@ -1,10 +1,10 @@
-// A call: its parts are read one by one, each into an array of its own, and then it is made. A function here that returns
-// a bool says whether to go on: a part that its array has no room for stops the replay.
-use crate::input::{bytes_of, read_text, word};
+// A call: its parts are read one by one, each into an array of its own, and then it is made. A part that its array has no room
+// for stops the replay.
+use crate::input::{read_text, word};
 use crate::output::{UNTOUCHED_BYTE, UNTOUCHED_WORD, tell_read, tell_written};
 use listing::reading::read_table;
 use listing::writing::write_table;
-use sample::{copy_name, length, read_words, say, words_of};
+use sample::{Stop, copy_name, length, read_words, room_of, say};
 use std::io;
 use std::io::{Read, Write};
 
@@ -14,9 +14,9 @@ const WORDS: usize = 10_000;
 
 const BYTES: usize = 45_000;
 
-fn too_long<W: Write>(out: &mut W) -> io::Result<bool> {
+fn too_long<W: Write>(out: &mut W) -> Result<(), Stop> {
     say(out, b" too long\n")?;
-    Ok(false)
+    Err(Stop::End)
 }
 
 fn reading<W: Write>(out: &mut W, text: &[u8], room: &mut [u16]) -> io::Result<()> {
@@ -24,17 +24,17 @@ fn reading<W: Write>(out: &mut W, text: &[u8], room: &mut [u16]) -> io::Result<(
     tell_read(out, answer, room)
 }
 
-fn with_text<W: Write>(out: &mut W, wanted: usize, text: &[u8]) -> io::Result<bool> {
+fn with_text<W: Write>(out: &mut W, wanted: usize, text: &[u8]) -> Result<(), Stop> {
     let mut room = [UNTOUCHED_WORD; WORDS];
-    let n = words_of(&room, wanted);
+    let n = room_of(&room, wanted);
     if n < wanted {
         return too_long(out);
     }
     reading(out, text, &mut room[..n])?;
-    Ok(true)
+    Ok(())
 }
 
-fn read_call<R: Read, W: Write>(input: &mut R, out: &mut W) -> io::Result<bool> {
+fn read_call<R: Read, W: Write>(input: &mut R, out: &mut W) -> Result<(), Stop> {
     let room = length(input)?;
     let mut text = [0u8; BYTES];
     let n = read_text(input, &mut text)?;
@@ -49,17 +49,17 @@ fn writing<W: Write>(out: &mut W, table: &[u16], room: &mut [u8]) -> io::Result<
     tell_written(out, answer, room)
 }
 
-fn with_table<W: Write>(out: &mut W, wanted: usize, table: &[u16]) -> io::Result<bool> {
+fn with_table<W: Write>(out: &mut W, wanted: usize, table: &[u16]) -> Result<(), Stop> {
     let mut room = [UNTOUCHED_BYTE; BYTES];
-    let n = bytes_of(&room, wanted);
+    let n = room_of(&room, wanted);
     if n < wanted {
         return too_long(out);
     }
     writing(out, table, &mut room[..n])?;
-    Ok(true)
+    Ok(())
 }
 
-fn write_call<R: Read, W: Write>(input: &mut R, out: &mut W) -> io::Result<bool> {
+fn write_call<R: Read, W: Write>(input: &mut R, out: &mut W) -> Result<(), Stop> {
     let room = length(input)?;
     let mut table = [0u16; WORDS];
     let wanted = length(input)?;
@@ -70,18 +70,15 @@ fn write_call<R: Read, W: Write>(input: &mut R, out: &mut W) -> io::Result<bool>
     with_table(out, room, &table[..n])
 }
 
-// The next case, if there is one. Its call is told by the first byte of its word.
-pub fn replay<R: Read, W: Write>(input: &mut R, out: &mut W) -> io::Result<bool> {
-    if !copy_name(input, out)? {
-        return Ok(false);
-    }
-    let call = word(input)?;
-    match call {
-        b'r' => read_call(input, out),
-        b'w' => write_call(input, out),
+// The next case. Its call is told by the first byte of its word.
+pub fn replay<R: Read, W: Write>(input: &mut R, out: &mut W) -> Result<(), Stop> {
+    copy_name(input, out)?;
+    match word(input)? {
+        Some(b'r') => read_call(input, out),
+        Some(b'w') => write_call(input, out),
         _ => {
             say(out, b" no such call\n")?;
-            Ok(false)
+            Err(Stop::End)
         }
     }
 }

@@ -5,11 +5,11 @@
 
 ghost use Rattle.std.specs.Prelude.{◌≡◌, ◌≤◌, ◌<◌};
 ghost use Rattle.readings.specs.Tree.{same_tree, same_args};
-ghost use Rattle.pool.specs.Meaning.{Stored, entries, tree_at};
+ghost use Rattle.pool.specs.Meaning.{entries, tree_at};
 ghost use Rattle.trees.specs.Asked.{args_at};
 ghost use Rattle.trees.specs.Same.{compared};
 
-use pool::{Argument, ArgumentKind};
+use pool::{Argument, ArgumentKind, Records};
 
 // Whether two arguments are the same, as far as their own records say: nested ones are if their matches are.
 #[derive(Clone, Copy)]
@@ -34,35 +34,31 @@ fn compare(x: Argument, y: Argument) -> Compared
 
 // Whether two matches have the same ruleset, rule and argument spans, all the way down.
 #[cycle(is_same_same_arguments)]
-pub fn is_same(store: &[usize], used: usize, a: usize, b: usize) -> bool
-    requires stored { Stored store.now used }
-    requires a_lt_used { a < used }
-    requires b_lt_used { b < used }
-    ensures answers { result ≡ same_tree (tree_at (entries store.now used) a) (tree_at (entries store.now used) b) }
+pub fn is_same(records: Records, a: usize, b: usize) -> bool
+    requires a_lt_used { a < records.used }
+    requires b_lt_used { b < records.used }
+    ensures answers { result ≡ same_tree (tree_at (entries records.entry.store.now records.entry.used) a) (tree_at (entries records.entry.store.now records.entry.used) b) }
 {
-    let x = pool::match_at(store, used, a);
-    let y = pool::match_at(store, used, b);
-    x.set == y.set && x.rule == y.rule && same_arguments(store, used, x.args, y.args)
+    let x = pool::match_at(records, a);
+    let y = pool::match_at(records, b);
+    x.set == y.set && x.rule == y.rule && same_arguments(records, x.args, y.args)
 }
 
 // Whether arguments up to a last one and up to another are the same: the last ones are, and those before them.
 #[cycle(is_same_same_arguments)]
-fn same_arguments(store: &[usize], used: usize, a: usize, b: usize) -> bool
-    requires stored { Stored store.now used }
-    requires a_le_used { a ≤ used }
-    requires b_le_used { b ≤ used }
-    ensures { result ≡ same_args (args_at (entries store.now used) a) (args_at (entries store.now used) b) }
+fn same_arguments(records: Records, a: usize, b: usize) -> bool
+    requires a_le_used { a ≤ records.used }
+    requires b_le_used { b ≤ records.used }
+    ensures { result ≡ same_args (args_at (entries records.entry.store.now records.entry.used) a) (args_at (entries records.entry.store.now records.entry.used) b) }
 {
-    let last = pool::last_argument(store, used, a);
-    let other = pool::last_argument(store, used, b);
+    let last = pool::last_argument(records, a);
+    let other = pool::last_argument(records, b);
     match (last, other) {
         (None, None) => true,
         (Some((x, p)), Some((y, q))) => match compare(x, y) {
             Compared::Different => false,
-            Compared::Alike => same_arguments(store, used, p, q),
-            Compared::Inner(m, n) => {
-                is_same(store, used, m, n) && same_arguments(store, used, p, q)
-            }
+            Compared::Alike => same_arguments(records, p, q),
+            Compared::Inner(m, n) => { is_same(records, m, n) && same_arguments(records, p, q) }
         },
         _ => false,
     }

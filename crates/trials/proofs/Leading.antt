@@ -8,12 +8,7 @@ use native.Mathlib.Omega.{arith}
 use native.Mathlib.Decide.{dec_lt}
 use lib.ListN.{length, get_or, replicate, length-replicate, get_or-replicate, get_or-eq_default}
 use Rattle.places.specs.declared.RulePlace.{RulePlace}
-use mathlib.Core.Bool.{true}
-use Rattle.places.specs.Places.{Placed}
-use Rattle.defs.specs.Table.{table_fits}
-use Rattle.defs.specs.Ruledef.{starts_of}
-use Rattle.trials.specs.Told.{Chosen}
-use Rattle.trials.proofs.Choices.{chosen_at}
+use Rattle.places.specs.Places.{PlaceAsked, Placed}
 use Rattle.leads.specs.Leads.{Leads, Led, Among, Nested, ListAsked, NestAsked}
 use Rattle.leads.proofs.Laying.{led-then}
 use Rattle.trials.specs.declared.Order.{Order}
@@ -27,10 +22,8 @@ module _ {t starts rules leads : List ℕ} {places : List RulePlace} (asked : Le
   pub list-asked : {leads' : List ℕ} → length leads' ≡ length leads → ListAsked t places rules leads'
   list-asked e = record { table = asked.table; below = asked.below; placed = asked.placed; room = omega (arith, e, asked.room) }
 
-pub lead-asked :
-    {t starts rules leads : List ℕ} {places : List RulePlace} (line : List ℕ) → table_fits t ≡ true → starts ≡ starts_of t → Chosen t line rules →
-    Placed t places rules → length leads ≡ 512 → LeadAsked t starts places rules leads
-lead-asked {t} {rules = rules} line ok begins chosen placed e = record { table = ok; begins = begins; below = chosen_at t line ok rules chosen; placed = placed; room = e }
+pub lead-asked : {t starts rules leads : List ℕ} {places₀ places : List RulePlace} → PlaceAsked t starts rules places₀ → Placed t places rules → length leads ≡ 512 → LeadAsked t starts places rules leads
+lead-asked asked placed e = record { table = asked.table; begins = asked.begins; below = asked.below; placed = placed; room = e }
 
 module _ {t a b : List ℕ} (rules : List ℕ) (nested : Led t (Nested t) a b) where
   pub led-scan : {order : Order} {c : List ℕ} → order ≡ Scan → Led t (Among rules) b c → Led t (LedFor order t rules) a c

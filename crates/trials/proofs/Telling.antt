@@ -15,7 +15,6 @@ use Rattle.plain.specs.Told.{Told}
 use Rattle.plain.proofs.Members.{kept-has}
 use Rattle.ruledef_map.specs.RuledefMap.{line_prefix}
 use Rattle.defs.specs.Table.{table_fits}
-use Rattle.places.specs.declared.RulePlace.{RulePlace}
 use Rattle.readings.specs.Tree.{Tree, moved}
 use Rattle.line.specs.Line.{GoodLine}
 use Rattle.line.proofs.Lines.{good-is}
@@ -39,6 +38,7 @@ use Rattle.pool.specs.Meaning.{gathered, meaning, meanings}
 use Rattle.pool.proofs.Meanings.{meanings-more}
 use Rattle.answer.specs.Measured.{trees_in, measured, FitFrom}
 use Rattle.answer.specs.declared.Measure.{Measure}
+use Rattle.places.specs.declared.RulePlace.{RulePlace}
 use Rattle.trials.specs.declared.Refused.{Refused}
 use Rattle.trials.specs.declared.Refused.TheVariants.{NoMatch, TooLong}
 use Rattle.walk.specs.declared.Stopped.{Stopped}

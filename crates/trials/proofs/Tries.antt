@@ -8,7 +8,7 @@ use native.Mathlib.Omega.{arith}
 use lib.Dec.{eqb}
 use lib.ListN.{length, get_or, take}
 use Rattle.syntax.specs.declared.walker.Walker.{Walker}
-use Rattle.defs.specs.Table.{records_in, parts_between, rule_span}
+use Rattle.defs.specs.Table.{records_in, ruleset_at, parts_between, rule_span}
 use Rattle.defs.specs.declared.ruledef.Part.{Part}
 use Rattle.std.specs.declared.ops.Range.{Range}
 use Rattle.defs.proofs.Words.{parts_whole}
@@ -39,7 +39,8 @@ use Rattle.ruledef_map.specs.RuledefMap.{rule_prefix}
 use Rattle.leads.specs.Leads.{ahead_of, failing_of, Leads}
 use Rattle.leads.proofs.Told.{lead-tells, told-some}
 use Rattle.places.specs.declared.RulePlace.{RulePlace}
-use Rattle.places.specs.Places.{place_at}
+use Rattle.places.specs.Places.{place_at, PlacedAt}
+use Rattle.places.proofs.Words.{table-short}
 use Rattle.trials.specs.Told.{TryAsked, Tried, listed, stopped}
 use Rattle.walk.proofs.Outcomes.{mapped-done, mapped-stop}
 use Rattle.walk.proofs.Logs.{made_none}
@@ -79,9 +80,19 @@ module _ {t line sheet starts store₀ rules : List ℕ} {places : List RulePlac
       known : rule < records_in t
       known = subst (λ (x : ℕ). x < records_in t) (sym rule-is) (asked.below i h)
 
-      -- where the rule's place stands
-      pub place-there : (rule < 512) × (rule < length places)
-      place-there = let few : rule < 512 = omega (arith, known, few-records t line sheet asked.accepted.table) in (few, omega (arith, few, asked.placed.sized))
+      placed-here : PlacedAt t places rule
+      placed-here = subst (PlacedAt t places) (sym rule-is) (asked.placed.each i h)
+
+      -- its place, as the code reads it
+      abbrev held : RulePlace
+      held = get_or places rule (record { set = 0; number = 0; from = 0; to = 0 })
+
+      held_is : held ≡ place_at t rule
+      held_is = placed-here.is _
+
+      -- where it stands
+      pub words-there : (rule < 512) × (rule < length places)
+      words-there = let few : rule < 512 = omega (arith, known, few-records t line sheet asked.accepted.table) in (few, omega (arith, few, asked.placed.sized))
 
       -- a rule that fails in its leading exact parts, told by its lead, is counted without a walk
       module _ {leads : List ℕ} (led : Leads t leads) (bytes : (j : ℕ) → get_or line j 0 < 256) (w : Walker) (start : w.cursor ≡ 0) (end_of_lem : w.limit ≡ length line)
@@ -109,121 +120,130 @@ module _ {t line sheet starts store₀ rules : List ℕ} {places : List RulePlac
             ∙ index-stop (trial_of t line sheet) itself 0 rules i did h rule 0 rule-is
             (fails-stop s (under s depths) (eqb (length line)) (s.parts (pair_of t rule).0 (pair_of t rule).1) (length line) 0 (omega arith) (omega arith) fails fails-so some (named (pair_of t rule).0 (pair_of t rule).1) v u few))
 
-      in-ruleset : (pair_of t rule).0 < 32
-      unfolding pair_of
+      in-ruleset : ruleset_at t rule < 32
       in-ruleset = (pair-within t line sheet asked.accepted.table rule known).2
 
       number_small : (pair_of t rule).1 < 512
       unfolding pair_of
-      number_small = omega (arith, place-there.0)
+      number_small = omega (arith, words-there.0)
 
-      module _ {here : RulePlace} (here-is : here ≡ place_at t rule) where
-        group_of : here.set ≡ (pair_of t rule).0
-        unfolding pair_of place_at
-        group_of = ap (λ (p : RulePlace). p.set) here-is
+      set_is : held.set ≡ ruleset_at t rule
+      unfolding place_at
+      set_is = ap (λ (p : RulePlace). p.set) held_is
 
-        number_is : here.number ≡ (pair_of t rule).1
-        unfolding pair_of place_at
-        number_is = ap (λ (p : RulePlace). p.number) here-is
+      group_of : held.set ≡ (pair_of t rule).0
+      unfolding pair_of
+      group_of = set_is
 
-        parts : Range ℕ
-        parts = record { start = here.from; end = here.to }
+      number_is : held.number ≡ (pair_of t rule).1
+      unfolding pair_of place_at
+      number_is = ap (λ (p : RulePlace). p.number) held_is
 
-        span : parts ≡ rule_span t rule
-        unfolding parts place_at
-        span = λ k. record { start = (here-is k).from; end = (here-is k).to }
+      parts : Range ℕ
+      parts = record { start = held.from; end = held.to }
 
-        module _ (w : Walker) (start : w.cursor ≡ 0) (end_of_lem : w.limit ≡ length line) where
-          abbrev there : Place
-          there = record {
-            set = here.set;
-            rule = here.number;
-            at = here.from;
-            end = here.to;
-            depth = 0;
-            args = 0;
-          }
+      span : parts ≡ rule_span t rule
+      unfolding parts place_at
+      span = λ k. record { start = (held_is k).from; end = (held_is k).to }
 
-          pub try-ready : (has : Pool) → has.used ≡ u → Ready t line sheet starts store there w has
-          unfolding parts
-          try-ready has e =
-              let sp = span-within t line sheet asked.accepted.table rule known parts span in
-              record {
-                table = asked.accepted.table;
-                extents = asked.accepted.extents;
-                short = short;
-                begins = asked.begins;
-                stored = subst (Stored store) (sym e) did.stored;
-                counted = subst (λ (n : ℕ). Counted (scene_of t [] []) (log_of store n)) (sym e) did.counted;
-                sets = omega (arith, group_of, in-ruleset);
-                rules = omega (arith, number_is, number_small);
-                parts = sp.from;
-                ordered = sp.ordered;
-                whole = sp.within;
-                depth = omega arith;
-                last = omega arith;
-                cursor = omega (arith, start);
-                limit = omega (arith, end_of_lem);
-                top = λ e. end_of_lem;
-              }
+      pub fields-small : (held.set < 32) × (held.number < 512) × (held.from < 65536) × (held.to < 65536)
+      unfolding parts
+      fields-small =
+          let sp = span-within t line sheet asked.accepted.table rule known parts span in
+          let short = table-short t asked.accepted.table in
+          (omega (arith, set_is, in-ruleset), omega (arith, number_is, number_small), omega (arith, sp.ordered, sp.within, short), omega (arith, sp.within, short))
 
-          parts_are : parts_between t here.from here.to ≡ s.parts (pair_of t rule).0 (pair_of t rule).1
-          unfolding parts
-          parts_are = parts_whole t rule parts span ∙ sym (pair_parts t line sheet asked.accepted.table rule known)
+      module _ (w : Walker) (start : w.cursor ≡ 0) (end_of_lem : w.limit ≡ length line) where
+        abbrev there : Place
+        there = record {
+          set = held.set;
+          rule = held.number;
+          at = held.from;
+          end = held.to;
+          depth = 0;
+          args = 0;
+        }
 
-          -- a top rule begins with no argument, and no count
-          pub try-stands : (u : ℕ) {n : ℕ} → n ≡ 0 → Stands t store u there n (to_come t there) w.cursor
-          unfolding chain_at scene_of
-          try-stands u z = record {
-            own = first;
-            so_far = so-start (scene_of t [] []) (ap₂ (λ (a b : ℕ). (scene_of t [] []).parts a b) group_of number_is ∙ sym parts_are) z;
-            small = omega arith;
-          }
+        pub try-ready : (has : Pool) → has.used ≡ u → Ready t line sheet starts store there w has
+        unfolding parts
+        try-ready has e =
+            let sp = span-within t line sheet asked.accepted.table rule known parts span in
+            record {
+              table = asked.accepted.table;
+              extents = asked.accepted.extents;
+              short = short;
+              begins = asked.begins;
+              stored = subst (Stored store) (sym e) did.stored;
+              counted = subst (λ (n : ℕ). Counted (scene_of t [] []) (log_of store n)) (sym e) did.counted;
+              sets = omega (arith, set_is, in-ruleset);
+              rules = omega (arith, number_is, number_small);
+              parts = sp.from;
+              ordered = sp.ordered;
+              whole = sp.within;
+              depth = omega arith;
+              last = omega arith;
+              cursor = omega (arith, start);
+              limit = omega (arith, end_of_lem);
+              top = λ e. end_of_lem;
+            }
 
-          abbrev walked : Plan (List Found)
-          walked = walk s (under s depths) (eqb (length line)) (s.parts (pair_of t rule).0 (pair_of t rule).1) (length line) 0
+        parts_are : parts_between t held.from held.to ≡ s.parts (pair_of t rule).0 (pair_of t rule).1
+        unfolding parts
+        parts_are = parts_whole t rule parts span ∙ sym (pair_parts t line sheet asked.accepted.table rule known)
 
-          abbrev planned : Plan (List Found)
-          planned = rule_plan t line sheet 0 here.from here.to w.limit w.cursor
+        -- a top rule begins with no argument, and no count
+        pub try-stands : (u : ℕ) {n : ℕ} → n ≡ 0 → Stands t store u there n (to_come t there) w.cursor
+        unfolding chain_at scene_of
+        try-stands u z = record {
+          own = first;
+          so_far = so-start (scene_of t [] []) (ap₂ (λ (a b : ℕ). (scene_of t [] []).parts a b) group_of number_is ∙ sym parts_are) z;
+          small = omega arith;
+        }
 
-          plan-is : planned ≡ walked
-          unfolding rule_plan parts_plan finishes
-          plan-is =
-              ap (λ (ps : List Part). walk s (under s depths) (eqb (length line)) ps w.limit w.cursor) parts_are
-              ∙ ap (λ (l : ℕ). walk s (under s depths) (eqb (length line)) (s.parts (pair_of t rule).0 (pair_of t rule).1) l w.cursor) end_of_lem
-              ∙ ap (λ (c : ℕ). walk s (under s depths) (eqb (length line)) (s.parts (pair_of t rule).0 (pair_of t rule).1) (length line) c) start
+        abbrev walked : Plan (List Found)
+        walked = walk s (under s depths) (eqb (length line)) (s.parts (pair_of t rule).0 (pair_of t rule).1) (length line) 0
 
-          module _ {has : Pool} (used : has.used ≡ u) {r : Result Walked Stopped} {store'' : List ℕ}
-              (m : Left t (ran planned v has) there (log_of store has.used) store'' r) where
-            ran-is : ran planned v has ≡ run walked v u
-            ran-is = ap (λ (p : Plan (List Found)). run p v has.used) plan-is ∙ ap (run walked v) used
+        abbrev planned : Plan (List Found)
+        planned = rule_plan t line sheet 0 held.from held.to w.limit w.cursor
 
-            named-is : (x : Found) → whole_at there (log_of store has.used) x ≡ named (pair_of t rule).0 (pair_of t rule).1 x
-            unfolding chain_at
-            named-is x = λ k. (node (group_of k) (number_is k) x.0, x.1)
+        plan-is : planned ≡ walked
+        unfolding rule_plan parts_plan finishes
+        plan-is =
+            ap (λ (ps : List Part). walk s (under s depths) (eqb (length line)) ps w.limit w.cursor) parts_are
+            ∙ ap (λ (l : ℕ). walk s (under s depths) (eqb (length line)) (s.parts (pair_of t rule).0 (pair_of t rule).1) l w.cursor) end_of_lem
+            ∙ ap (λ (c : ℕ). walk s (under s depths) (eqb (length line)) (s.parts (pair_of t rule).0 (pair_of t rule).1) (length line) c) start
 
-            all_named : (xs : List Found) → map (whole_at there (log_of store has.used)) xs ≡ map (named (pair_of t rule).0 (pair_of t rule).1) xs
-            all_named [] = refl
-            all_named (x ∷ xs) = λ k. named-is x k ∷ all_named xs k
+        module _ {has : Pool} (used : has.used ≡ u) {r : Result Walked Stopped} {store'' : List ℕ}
+            (m : Left t (ran planned v has) there (log_of store has.used) store'' r) where
+          ran-is : ran planned v has ≡ run walked v u
+          ran-is = ap (λ (p : Plan (List Found)). run p v has.used) plan-is ∙ ap (run walked v) used
 
-            pub tries-again : {now : Walked} → r ≡ Ok now → length store'' ≡ 4096 → TriesDid t line sheet rules visits u₀ store₀ (i + 1) now.left now.pool.used store''
-            unfolding trial scene_of
-            tries-again {now} e z =
-                let x = reached m e in
-                let found = map (named (pair_of t rule).0 (pair_of t rule).1) x.founds in
-                index-more (trial_of t line sheet) itself 0 rules i did h rule 0 rule-is now.left now.pool.used store'' found
-                (mapped-done (named (pair_of t rule).0 (pair_of t rule).1) walked v u (sym ran-is ∙ x.done_with))
-                (subst (λ (n : ℕ). Made 0 (log_of store n) (log_of store'' now.pool.used) (map itself found)) used
-                (subst (Made 0 (log_of store has.used) (log_of store'' now.pool.used)) (all_named x.founds ∙ sym (map-id found)) x.made))
-                z x.counted
+          named-is : (x : Found) → whole_at there (log_of store has.used) x ≡ named (pair_of t rule).0 (pair_of t rule).1 x
+          unfolding chain_at
+          named-is x = λ k. (node (group_of k) (number_is k) x.0, x.1)
 
-            pub tries-stop : {stop : Stopped} → r ≡ Err stop → u₀ ≡ 0 → Tried t (run (tries s (map (pair_of t) rules)) visits 0) store'' (Err stop)
-            unfolding trial scene_of
-            tries-stop e z =
-                stopped
-                (ap (λ (p : Plan (List Match)). run p visits 0) (tries-are t line sheet rules) ∙ ap (run (each rules (trial_of t line sheet)) visits) (sym z)
-                ∙ index-stop (trial_of t line sheet) itself 0 rules i did h rule 0 rule-is
-                (mapped-stop (named (pair_of t rule).0 (pair_of t rule).1) walked v u (sym ran-is ∙ refused m e)))
+          all_named : (xs : List Found) → map (whole_at there (log_of store has.used)) xs ≡ map (named (pair_of t rule).0 (pair_of t rule).1) xs
+          all_named [] = refl
+          all_named (x ∷ xs) = λ k. named-is x k ∷ all_named xs k
+
+          pub tries-again : {now : Walked} → r ≡ Ok now → length store'' ≡ 4096 → TriesDid t line sheet rules visits u₀ store₀ (i + 1) now.left now.pool.used store''
+          unfolding trial scene_of
+          tries-again {now} e z =
+              let x = reached m e in
+              let found = map (named (pair_of t rule).0 (pair_of t rule).1) x.founds in
+              index-more (trial_of t line sheet) itself 0 rules i did h rule 0 rule-is now.left now.pool.used store'' found
+              (mapped-done (named (pair_of t rule).0 (pair_of t rule).1) walked v u (sym ran-is ∙ x.done_with))
+              (subst (λ (n : ℕ). Made 0 (log_of store n) (log_of store'' now.pool.used) (map itself found)) used
+              (subst (Made 0 (log_of store has.used) (log_of store'' now.pool.used)) (all_named x.founds ∙ sym (map-id found)) x.made))
+              z x.counted
+
+          pub tries-stop : {stop : Stopped} → r ≡ Err stop → u₀ ≡ 0 → Tried t (run (tries s (map (pair_of t) rules)) visits 0) store'' (Err stop)
+          unfolding trial scene_of
+          tries-stop e z =
+              stopped
+              (ap (λ (p : Plan (List Match)). run p visits 0) (tries-are t line sheet rules) ∙ ap (run (each rules (trial_of t line sheet)) visits) (sym z)
+              ∙ index-stop (trial_of t line sheet) itself 0 rules i did h rule 0 rule-is
+              (mapped-stop (named (pair_of t rule).0 (pair_of t rule).1) walked v u (sym ran-is ∙ refused m e)))
 
     pub tries-end : length rules ≤ i → u₀ ≡ 0 → (w : Walked) → w.left ≡ v → w.pool.used ≡ u → Tried t (run (tries s (map (pair_of t) rules)) visits 0) store (Ok w)
     tries-end h z w k e =

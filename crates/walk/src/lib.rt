@@ -14,7 +14,7 @@ ghost use Rattle.walk.specs.Met.{Ready, Prepared, Stands, to_come, from_expr, fr
 use defs::ruledef;
 use defs::ruledef::Part;
 use leads;
-use pool::{Argument, ArgumentKind, Pool, Record};
+use pool::{Argument, ArgumentKind, Pool, Record, Records};
 use syntax::walker::{Step, Walker, least};
 use useful;
 
@@ -131,15 +131,14 @@ fn finish(
 }
 
 // Whether a record from `first` on and before m is a match of the depth that is the same as m.
-fn is_duplicate(store: &[usize], used: usize, first: usize, m: usize, depth: usize) -> bool
-    requires stored { Stored store.now used }
+fn is_duplicate(records: Records, first: usize, m: usize, depth: usize) -> bool
     requires first_le_m { first ≤ m }
-    requires m_lt_used { m < used }
+    requires m_lt_used { m < records.used }
     requires depth_bound { depth < 32 }
-    ensures { (e : ℕ) → result ≡ any_same same_match (gathered depth (made (entries store.now used) first m)) (tree_at (entries store.now used) m, e) }
+    ensures { (e : ℕ) → result ≡ any_same same_match (gathered depth (made (entries records.entry.store.now records.entry.used) first m)) (tree_at (entries records.entry.store.now records.entry.used) m, e) }
 {
     for i in first..m {
-        if pool::depth_at(store, i) == Some(depth) && trees::is_same(store, used, i, m) {
+        if pool::depth_at(records.store, i) == Some(depth) && trees::is_same(records, i, m) {
             return true;
         }
     }
@@ -147,14 +146,13 @@ fn is_duplicate(store: &[usize], used: usize, first: usize, m: usize, depth: usi
 }
 
 // Where record m ended and its count, if it is a match of the depth and no record from `first` on and before it is the same.
-fn inner_match(store: &[usize], used: usize, first: usize, m: usize, depth: usize) -> Option<Inner>
-    requires stored { Stored store.now used }
+fn inner_match(records: Records, first: usize, m: usize, depth: usize) -> Option<Inner>
     requires first_le_m { first ≤ m }
-    requires m_lt_used { m < used }
+    requires m_lt_used { m < records.used }
     requires depth_bound { depth < 32 }
-    ensures { InnerOf depth (entries store.now used) first m (decode (get_or store.now m 0)) result }
+    ensures { InnerOf depth (entries records.entry.store.now records.entry.used) first m (decode (get_or records.entry.store.now m 0)) result }
 {
-    match pool::record_at(store, m) {
+    match pool::record_at(records.store, m) {
         Record::Kept { .. } => None,
         Record::Completed {
             depth: d,
@@ -162,7 +160,7 @@ fn inner_match(store: &[usize], used: usize, first: usize, m: usize, depth: usiz
             count,
             ..
         } => {
-            if d != depth || is_duplicate(store, used, first, m, depth) {
+            if d != depth || is_duplicate(records, first, m, depth) {
                 return None;
             }
             Some(Inner { end, count })
@@ -352,7 +350,11 @@ fn match_with_nested_ruledef(
         }
     }
     for m in first..walked.pool.used {
-        let Some(found) = inner_match(store, walked.pool.used, first, m, depth + 1) else {
+        let taken = Records {
+            store,
+            used: walked.pool.used,
+        };
+        let Some(found) = inner_match(taken, first, m, depth + 1) else {
             continue;
         };
         let start = least(found.end, begins);

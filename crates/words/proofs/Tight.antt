@@ -12,5 +12,5 @@ tree_words-tight κs a r s x y = one_answer
 
 -- with the lent answer as it stands at exit
 pub write_tree-tight : (κs a : _) (r s : ℕ) (x y : _) → write-tree.Post κs a r x → write-tree.Post κs a s y
-    → ◌≡◌ {A = List ℕ × ℕ} (x.1.1.1.1.0.now, r) (y.1.1.1.1.0.now, s)
+    → ◌≡◌ {A = List ℕ × ℕ} (x.1.1.1.0.now, r) (y.1.1.1.0.now, s)
 write_tree-tight κs a r s x y = one_answer

@@ -9,10 +9,10 @@ ghost use Rattle.plain.specs.Buffers.{put_after};
 ghost use Rattle.readings.specs.Tree.{moved, moved_args};
 ghost use Rattle.readings.specs.Answer.{arg_count, tree_words, arg_words};
 ghost use Rattle.readings.specs.Measure.{Fit};
-ghost use Rattle.pool.specs.Meaning.{Stored, entries, tree_at};
+ghost use Rattle.pool.specs.Meaning.{entries, tree_at};
 ghost use Rattle.trees.specs.Asked.{args_at, tree_length, args_length, TreeAsked, ArgsAsked};
 
-use pool::ArgumentKind;
+use pool::{ArgumentKind, Records};
 
 // A tree's first words: ruleset, rule, argument count. And an argument's own: expression or nested, start, end.
 const WORDS: usize = 3;
@@ -23,28 +23,28 @@ const NESTED: usize = 1;
 
 // How many answer words a match has.
 #[cycle(argument_words_tree_words)]
-pub fn tree_words(store: &[usize], used: usize, m: usize) -> usize
-    requires { TreeAsked tree_length 16777216 store.now used m }
-    ensures answers { result ≡ length (tree_words (tree_at (entries store.now used) m)) }
+pub fn tree_words(records: Records, m: usize) -> usize
+    requires { TreeAsked tree_length 16777216 records.store.now records.used m }
+    ensures answers { result ≡ length (tree_words (tree_at (entries records.entry.store.now records.entry.used) m)) }
 {
-    let head = pool::match_at(store, used, m);
-    WORDS + argument_words(store, used, head.args)
+    let head = pool::match_at(records, m);
+    WORDS + argument_words(records, head.args)
 }
 
 // How many answer words arguments up to a last one have.
 #[cycle(argument_words_tree_words)]
-fn argument_words(store: &[usize], used: usize, a: usize) -> usize
-    requires { ArgsAsked args_length 16777216 store.now used a }
-    ensures { result ≡ length (arg_words (args_at (entries store.now used) a)) }
+fn argument_words(records: Records, a: usize) -> usize
+    requires { ArgsAsked args_length 16777216 records.store.now records.used a }
+    ensures { result ≡ length (arg_words (args_at (entries records.entry.store.now records.entry.used) a)) }
 {
-    match pool::last_argument(store, used, a) {
+    match pool::last_argument(records, a) {
         None => 0,
         Some((argument, prev)) => {
-            let before = argument_words(store, used, prev);
+            let before = argument_words(records, prev);
             match argument.kind {
                 ArgumentKind::Expr => before + WORDS,
                 ArgumentKind::Nested(m) => {
-                    let inner = tree_words(store, used, m);
+                    let inner = tree_words(records, m);
                     before + WORDS + inner
                 }
             }
@@ -53,15 +53,14 @@ fn argument_words(store: &[usize], used: usize, a: usize) -> usize
 }
 
 // How many arguments there are up to a last one.
-fn count_arguments(store: &[usize], used: usize, a: usize) -> usize
-    requires stored { Stored store.now used }
-    requires a_le_used { a ≤ used }
-    ensures value { result ≡ arg_count (args_at (entries store.now used) a) }
+fn count_arguments(records: Records, a: usize) -> usize
+    requires a_le_used { a ≤ records.used }
+    ensures value { result ≡ arg_count (args_at (entries records.entry.store.now records.entry.used) a) }
     ensures upper_bound { result ≤ a }
 {
     let mut count: usize = 0;
     let mut at = a;
-    while let Some((_, prev)) = pool::last_argument(store, used, at) {
+    while let Some((_, prev)) = pool::last_argument(records, at) {
         count += 1;
         at = prev;
     }
@@ -84,53 +83,37 @@ fn write_words(answer: &mut [u32], at: usize, x: usize, y: usize, z: usize) -> u
 
 // A match's words in the answer from a place on, and the place after them.
 #[cycle(write_arguments_write_tree)]
-pub fn write_tree(
-    store: &[usize],
-    used: usize,
-    m: usize,
-    base: usize,
-    answer: &mut [u32],
-    at: usize,
-) -> usize
-    requires stored { Stored store.now used }
-    requires m_lt_used { m < used }
-    requires fit { Fit (tree_words (moved base (tree_at (entries store.now used) m))) }
-    requires m_in_bounds { at + length (tree_words (tree_at (entries store.now used) m)) ≤ length answer.old }
-    ensures answers { (answer.new, result) ≡ put_after at (tree_words (moved base (tree_at (entries store.now used) m))) answer.old }
+pub fn write_tree(records: Records, m: usize, base: usize, answer: &mut [u32], at: usize) -> usize
+    requires m_lt_used { m < records.used }
+    requires fit { Fit (tree_words (moved base (tree_at (entries records.store.now records.used) m))) }
+    requires m_in_bounds { at + length (tree_words (tree_at (entries records.store.now records.used) m)) ≤ length answer.old }
+    ensures answers { (answer.new, result) ≡ put_after at (tree_words (moved base (tree_at (entries records.entry.store.now records.entry.used) m))) answer.old }
 {
-    let head = pool::match_at(store, used, m);
-    let count = count_arguments(store, used, head.args);
+    let head = pool::match_at(records, m);
+    let count = count_arguments(records, head.args);
     let next = write_words(answer, at, head.set, head.rule, count);
-    write_arguments(store, used, head.args, base, answer, next)
+    write_arguments(records, head.args, base, answer, next)
 }
 
 // The words of arguments up to a last one: those of the ones before it, its own, and its match's if it is nested.
 #[cycle(write_arguments_write_tree)]
-fn write_arguments(
-    store: &[usize],
-    used: usize,
-    a: usize,
-    base: usize,
-    answer: &mut [u32],
-    at: usize,
-) -> usize
-    requires stored { Stored store.now used }
-    requires a_le_used { a ≤ used }
-    requires fit { Fit (arg_words (moved_args base (args_at (entries store.now used) a))) }
-    requires a_in_bounds { at + length (arg_words (args_at (entries store.now used) a)) ≤ length answer.old }
-    ensures { (answer.new, result) ≡ put_after at (arg_words (moved_args base (args_at (entries store.now used) a))) answer.old }
+fn write_arguments(records: Records, a: usize, base: usize, answer: &mut [u32], at: usize) -> usize
+    requires a_le_used { a ≤ records.used }
+    requires fit { Fit (arg_words (moved_args base (args_at (entries records.store.now records.used) a))) }
+    requires a_in_bounds { at + length (arg_words (args_at (entries records.store.now records.used) a)) ≤ length answer.old }
+    ensures { (answer.new, result) ≡ put_after at (arg_words (moved_args base (args_at (entries records.entry.store.now records.entry.used) a))) answer.old }
 {
-    match pool::last_argument(store, used, a) {
+    match pool::last_argument(records, a) {
         None => at,
         Some((argument, prev)) => {
-            let next = write_arguments(store, used, prev, base, answer, at);
+            let next = write_arguments(records, prev, base, answer, at);
             let start = base + argument.start;
             let end = base + argument.end;
             match argument.kind {
                 ArgumentKind::Expr => write_words(answer, next, EXPRESSION, start, end),
                 ArgumentKind::Nested(m) => {
                     let inner = write_words(answer, next, NESTED, start, end);
-                    write_tree(store, used, m, base, answer, inner)
+                    write_tree(records, m, base, answer, inner)
                 }
             }
         }

@@ -3,7 +3,7 @@ use native.Mathlib.Omega.{arith}
 use Rattle.leads.proofs.Nested.{starts-long, starts-few, sets-few, nested-none, nested-top, nested-led, nested-empty, nested-all}
 use Rattle.defs.specs.Table.{rulesets_in}
 use Rattle.leads.proofs.lead_nested.Goals as goal
-use Rattle.leads.proofs.lead_nested.Goals.{then-from-to+then-not-is_top_rule, then-from-to+else-not-is_top_rule, else-from-to}
+use Rattle.leads.proofs.lead_nested.Goals.{then-from-to+then-nested, then-from-to+else-nested, else-from-to}
 use Prim.Native.Nat.{◌<◌}
 use mathlib.Core.Path.{sym, ◌∙◌}
 
@@ -29,11 +29,11 @@ pub loop-set-preserved : goal.loop-set-preserved
 loop-set-preserved c =
     let set : c.loop-set.set < rulesets_in c.args.table.now = omega (arith, c.ruleset_count-sets.ensures.answers) in
     elim c.if-from-to.branch [
-      | then-from-to+then-not-is_top_rule w ↦
+      | then-from-to+then-nested w ↦
           rw w.leads-is
-          (nested-led c.requires set c.loop-set.invariant w.if-from-to.true (sym w.is_top_rule.ensures.answers ∙ w.if-not-is_top_rule.true) w.lead_between.ensures)
-      | then-from-to+else-not-is_top_rule w ↦
-          rw w.leads-is (nested-top c.requires set c.loop-set.invariant w.if-from-to.true (sym w.is_top_rule.ensures.answers ∙ w.if-not-is_top_rule.false))
+          (nested-led c.requires set c.loop-set.invariant w.if-from-to.true (sym w.is_top_rule-nested.ensures.answers ∙ w.if-nested.true) w.lead_between.ensures)
+      | then-from-to+else-nested w ↦
+          rw w.leads-is (nested-top c.requires set c.loop-set.invariant w.if-from-to.true (sym w.is_top_rule-nested.ensures.answers ∙ w.if-nested.false))
       | else-from-to w ↦ rw w.leads-is (nested-empty c.requires set c.loop-set.invariant w.if-from-to.false)
     ]
 

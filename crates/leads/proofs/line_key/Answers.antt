@@ -1,25 +1,34 @@
+use mathlib.Core.Path.{◌≡◌}
+use Prim.Native.Nat.{◌+◌, ◌-◌, ◌<◌}
 use native.Mathlib.Omega.{arith}
 use Rattle.leads.proofs.Keys.{filling-fits, filling-all}
-use Rattle.leads.proofs.Seen.{line-start, line-byte, line-end}
+use Rattle.leads.proofs.Seen.{line-start, line-as, line-byte, line-end}
 use Rattle.leads.proofs.line_key.Goals as goal
+use Rattle.leads.proofs.line_key.Goals.{then-at-limit, else-at-limit}
 
-pub loop-left-init : goal.loop-left-init
-loop-left-init c = line-start _ _ _ c.requires.cursor_le_limit
+pub loop-init : goal.loop-init
+loop-init c = line-start _ _ _ c.requires.cursor_le_limit
 
 pub overflow_mul-key : goal.overflow_mul-key
-overflow_mul-key c = omega (arith, filling-fits c.loop-left.invariant.rest c.loop-left-test.true)
+overflow_mul-key c = let more : 0 < 4 - c.loop.counter = omega arith in omega (arith, filling-fits c.loop.invariant.rest more)
 
 pub overflow_add-key : goal.overflow_add-key
-overflow_add-key c = omega (arith, filling-fits c.loop-left.invariant.rest c.loop-left-test.true, c.to_ascii_lowercase.type_inv)
+overflow_add-key c = let more : 0 < 4 - c.loop.counter = omega arith in omega (arith, filling-fits c.loop.invariant.rest more, c.to_ascii_lowercase.type_inv)
 
-pub loop-left-preserved-then-at-limit : goal.loop-left-preserved-then-at-limit
-loop-left-preserved-then-at-limit c = line-byte c.loop-left.invariant c.requires.limit_in_bounds c.loop-left-test.true c.next_useful_index-at.ensures.answers c.if-at-limit.true (omega (arith, c.to_ascii_lowercase.type_inv)) c.to_ascii_lowercase.ensures.answers
-
-pub loop-left-preserved : goal.loop-left-preserved
-loop-left-preserved c = line-end c.loop-left.invariant c.requires.limit_in_bounds c.loop-left-test.true c.next_useful_index-at.ensures.answers c.if-at-limit.false
+pub loop-preserved : goal.loop-preserved
+loop-preserved c =
+    let more : 0 < 4 - c.loop.counter = omega arith in
+    let one : 4 - c.loop.counter - 1 ≡ 4 - (c.loop.counter + 1) = omega arith in
+    elim c.if-at-limit.branch [
+      | then-at-limit w ↦
+          rw (w.key-is, w.cursor-is)
+          (line-as one (line-byte c.loop.invariant c.requires.limit_in_bounds more c.next_useful_index-at.ensures.answers w.if-at-limit.true (omega (arith, w.to_ascii_lowercase.type_inv)) w.to_ascii_lowercase.ensures.answers))
+      | else-at-limit w ↦
+          rw (w.key-is, w.cursor-is) (line-as one (line-end c.loop.invariant c.requires.limit_in_bounds more c.next_useful_index-at.ensures.answers w.if-at-limit.false))
+    ]
 
 pub overflow_cast-result : goal.overflow_cast-result
-overflow_cast-result c = omega (arith, (filling-all c.loop-left.invariant.rest c.loop-left-test.false).1)
+overflow_cast-result c = let whole = filling-all c.loop.invariant.rest (omega arith) in omega (arith, whole.1)
 
 pub returns : goal.returns
-returns c = (filling-all c.loop-left.invariant.rest c.loop-left-test.false).0
+returns c = let whole = filling-all c.loop.invariant.rest (omega arith) in whole.0

@@ -4,8 +4,8 @@ use mathlib.Core.List.{[]}
 use native.Mathlib.Omega.{arith}
 use Rattle.std.proofs.lemmas.Result.{err_from_is_err_and}
 use Rattle.trials.proofs.Checks.{accepted-by}
-use Rattle.trials.proofs.Choices.{chosen-places}
-use Rattle.trials.proofs.Leading.{lead-asked, leads-none}
+use Rattle.trials.proofs.Choices.{chosen_at, chosen-places}
+use Rattle.trials.proofs.Leading.{leads-none}
 use Rattle.leads.proofs.Laying.{leads-more}
 use Rattle.trials.proofs.Ordered.{table-refused, line_refused, chosen_by, line-told}
 use Rattle.matcher.proofs.call.Goals as goal
@@ -24,10 +24,13 @@ place_rules-requires c =
     (chosen_by c.args.order _ c.args.line.now c.args.sheet.now 0 0 [] (cc) _ c.rules_to_try-count.ensures.rules_after) refl
 
 pub lead_rules-requires : goal.lead_rules-requires
-lead_rules-requires c =
-    lead-asked c.args.line.now (cc) c.ruleset_starts-starts.ensures.answers
-    (chosen_by c.args.order _ c.args.line.now c.args.sheet.now 0 0 [] (cc) _ c.rules_to_try-count.ensures.rules_after)
-    c.place_rules.ensures.answers refl
+lead_rules-requires c = record {
+  table = cc;
+  begins = c.ruleset_starts-starts.ensures.answers;
+  below = chosen_at _ _ (cc) _ (chosen_by c.args.order _ c.args.line.now c.args.sheet.now 0 0 [] (cc) _ c.rules_to_try-count.ensures.rules_after);
+  placed = c.place_rules.ensures.answers;
+  room = refl;
+}
 
 pub read_line-requires-clause-read_asked : goal.read_line-requires-clause-read_asked
 read_line-requires-clause-read_asked c = record {

@@ -6,7 +6,7 @@ use Rattle.trees.proofs.+is_same_same_arguments.Goals as goal
 pub same_arguments-is_same-requires : goal.same_arguments-is_same-requires
 same_arguments-is_same-requires t c =
     let (x, y) = inner-earlier c.last_argument-last.ensures.answers.lasts c.last_argument-other.ensures.answers.lasts c.in-Some-Some.is-0 c.in-Some-Some.is-1 c.compare.ensures c.in-Inner.is in
-    (omega (arith, c.decreases), (c.requires.stored, (omega (arith, c.requires.a_le_used), omega (arith, c.requires.b_le_used))))
+    (omega (arith, c.decreases), (omega (arith, c.requires.a_le_used), omega (arith, c.requires.b_le_used)))
 
 pub same_arguments-returns-in-Different : goal.same_arguments-returns-in-Different
 same_arguments-returns-in-Different t c =

@@ -11,7 +11,7 @@ use Rattle.words.proofs.+write_arguments_write_tree.Goals as goal
 pub write_arguments-write_arguments-next-requires : goal.write_arguments-write_arguments-next-requires
 write_arguments-write_arguments-next-requires t c =
     let low = (before _ _ c.last_argument.ensures.answers.lasts c.in-Some.is).earlier in
-    (omega (arith, c.decreases), (c.requires.stored, (omega (arith, c.requires.a_le_used), (fit-before _ c.last_argument.ensures.answers.lasts c.in-Some.is c.requires.fit, omega (arith, c.requires.a_in_bounds, size-before words-sized c.last_argument.ensures.answers.lasts c.in-Some.is)))))
+    (omega (arith, c.decreases), (omega (arith, c.requires.a_le_used), (fit-before _ c.last_argument.ensures.answers.lasts c.in-Some.is c.requires.fit, omega (arith, c.requires.a_in_bounds, size-before words-sized c.last_argument.ensures.answers.lasts c.in-Some.is))))
 
 pub write_arguments-overflow_add-start : goal.write_arguments-overflow_add-start
 write_arguments-overflow_add-start t c =
@@ -42,7 +42,7 @@ write_arguments-write_words-inner-requires-clause-z_bound t c = let b = fit-span
 pub write_arguments-write_tree-requires : goal.write_arguments-write_tree-requires
 write_arguments-write_tree-requires t c =
     let low = nest-earlier _ _ c.last_argument.ensures.answers.lasts c.in-Some.is c.in-Nested.is in
-    (omega (arith, c.decreases), (c.requires.stored, (omega (arith, c.requires.a_le_used), (fit-inner _ c.last_argument.ensures.answers.lasts c.in-Some.is c.requires.fit c.in-Nested.is, omega (arith, c.requires.a_in_bounds, words-nest c.last_argument.ensures.answers.lasts c.in-Some.is c.in-Nested.is, before-end _ c.last_argument.ensures.answers.lasts c.in-Some.is _ _ c.write_arguments-next.ensures, put-end _ _ _ c.write_words-inner.ensures, c.write_arguments-next.auto, c.write_words-inner.auto)))))
+    (omega (arith, c.decreases), (omega (arith, c.requires.a_le_used), (fit-inner _ c.last_argument.ensures.answers.lasts c.in-Some.is c.requires.fit c.in-Nested.is, omega (arith, c.requires.a_in_bounds, words-nest c.last_argument.ensures.answers.lasts c.in-Some.is c.in-Nested.is, before-end _ c.last_argument.ensures.answers.lasts c.in-Some.is _ _ c.write_arguments-next.ensures, put-end _ _ _ c.write_words-inner.ensures, c.write_arguments-next.auto, c.write_words-inner.auto))))
 
 pub write_arguments-returns-in-Expr : goal.write_arguments-returns-in-Expr
 write_arguments-returns-in-Expr t c =
@@ -54,7 +54,7 @@ write_arguments-returns-in-Nested t c =
 
 pub write_tree-write_arguments-requires : goal.write_tree-write_arguments-requires
 write_tree-write_arguments-requires t c =
-    (omega (arith, c.decreases, c.match_at-head.ensures.answers.heads.earlier), (c.requires.stored, (omega (arith, c.requires.m_lt_used, c.match_at-head.ensures.answers.heads.earlier), (fit-head _ c.match_at-head.ensures.answers.heads c.requires.fit, omega (arith, c.requires.m_in_bounds, ap tree_length c.match_at-head.ensures.answers.heads.means, put-end _ _ _ c.write_words-next.ensures, c.write_words-next.auto)))))
+    (omega (arith, c.decreases, c.match_at-head.ensures.answers.heads.earlier), (omega (arith, c.requires.m_lt_used, c.match_at-head.ensures.answers.heads.earlier), (fit-head _ c.match_at-head.ensures.answers.heads c.requires.fit, omega (arith, c.requires.m_in_bounds, ap tree_length c.match_at-head.ensures.answers.heads.means, put-end _ _ _ c.write_words-next.ensures, c.write_words-next.auto))))
 
 pub write_tree-returns : goal.write_tree-returns
 write_tree-returns t c = record {

@@ -8,7 +8,7 @@ use Rattle.words.proofs.count_arguments.Given as goal
 
 abbrev pub invariant-loop-prev : goal.invariant-loop-prev
 invariant-loop-prev l =
-    (l.at ≤ l.used) × ((l.count + l.at ≤ l.initial.at) × (l.count + arg_count (args_at (entries l.store l.used) l.at) ≡ arg_count (args_at (entries l.store l.used) l.initial.at)))
+    (l.at ≤ l.records.used) × ((l.count + l.at ≤ l.initial.at) × (l.count + arg_count (args_at (entries l.records.store.now l.records.used) l.at) ≡ arg_count (args_at (entries l.records.store.now l.records.used) l.initial.at)))
 
 abbrev pub decreases-loop-prev : goal.decreases-loop-prev
 decreases-loop-prev l = l.at

@@ -1,6 +1,6 @@
 use native.Mathlib.Omega.{arith}
 use Rattle.std.proofs.lemmas.Grind.{common_steps}
-use Rattle.listing.proofs.Steps.{from_start, few-sizes, cut-shorter, bad-at, from-unended, from-bad, from_next, from-none, from-good, says-bad, says-fits}
+use Rattle.listing.proofs.Steps.{from_start, few-sizes, bad-at, from-unended, from-bad, from_next, from-none, from-good, says-bad, says-fits}
 use Rattle.listing.proofs.judging.judge.Goals as goal
 
 pub loop-line-init : goal.loop-line-init
@@ -23,9 +23,6 @@ pub loop-line-preserved : goal.loop-line-preserved
 loop-line-preserved c =
     from_next c.args.text.now c.loop-line.rest.now _ _ _ _ c.loop-line.invariant _ _ c.in-Some.ensures.answers _ _ _ _
     (says-fits _ c.judge_line.result _ c.in-Some-judge_line.is (c.judge_line.ensures.says c.loop-line.invariant.so_far c.loop-line.invariant.counted))
-
-pub loop-line-smaller : goal.loop-line-smaller
-loop-line-smaller c = cut-shorter _ _ _ _ c.in-Some.ensures.answers
 
 pub next_line-requires-then-not-is_empty-clause-sets_bound : goal.next_line-requires-then-not-is_empty-clause-sets_bound
 next_line-requires-then-not-is_empty-clause-sets_bound c = let z = few-sizes c.args.text.now c.loop-line.rest.now _ _ _ _ c.loop-line.invariant in z.0

@@ -1,17 +1,9 @@
 use mathlib.Core.Path.{sym, ◌∙◌}
 use native.Mathlib.Omega.{arith}
 use Rattle.fields.specs.Said.{fields_left}
-use Rattle.fields.proofs.Laying.{laying-all, laying-next, laying-done, laid_in}
-use Rattle.listing.specs.Packing.{words_said}
-use Rattle.listing.proofs.Rows.{said-none, said-next, said-room, said-head, said-tail}
+use Rattle.fields.proofs.Laying.{laying-next, laying-done, laid_in}
+use Rattle.listing.proofs.Rows.{said-none, said-next, said-room, said-tail}
 use Rattle.listing.proofs.reading.lay_parts.Goals as goal
-
-pub loop-field-init : goal.loop-field-init
-loop-field-init c =
-    rw c.into_iter-field-iterator.ensures.into_iter_gives (record { laying = laying-all c.args.table.now c.args.from (words_said c.args.sets (fields_left c.args.fields)); said = c.requires.said })
-
-pub unwrap-word-requires : goal.unwrap-word-requires
-unwrap-word-requires c = said-head c.args.sets c.part_word.result c.in-Some.ensures.steps c.part_word.ensures.answers c.loop-field.invariant.said
 
 pub offset_bounds-table-to : goal.offset_bounds-table-to
 offset_bounds-table-to c = omega (arith, said-room c.args.sets (fields_left c.args.fields) c.args.table.now c.loop-field.table _ _ c.args.from c.loop-field.to _ c.requires.end_in_bounds c.requires.said (said-next c.args.sets _ _ _ c.in-Some.ensures.steps (sym c.unwrap-word.ensures ∙ c.part_word.ensures.answers)) c.loop-field.invariant.laying)
