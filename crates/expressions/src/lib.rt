@@ -19,7 +19,7 @@ ghost use Rattle.expressions.specs.Filling.{Lays, Reaches, Follows, TermEnds, Fr
 
 use line::BadLine;
 
-// An entry's byte that says: no end here.
+// An entry's byte that says: no end here. A number and no `None`: a sheet is lent by C, and its bytes are read by `sheet_fits`.
 const NONE: u8 = 255;
 
 // How many halves a sheet has.

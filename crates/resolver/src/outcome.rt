@@ -1,5 +1,6 @@
 // Outcome words, for the Rust's `InstructionMatchResolution` (src/asm/matcher/mod.rs): guess + 2·kind + 8·size. Kinds:
 // 0 unresolved, 1 failed constraint, 2 resolved but unknown, 3 sized.
+// Words and no struct: C lends them to `tholdrimash_select`.
 ghost use Rattle.std.specs.Prelude.{◌≡◌, Some};
 ghost use Rattle.resolver.specs.Outcome.{kind_in, size_in, outcome_of, is_bad};
 ghost use Rattle.resolver.specs.Outcome.{is_guess, is_resolved, is_known};
