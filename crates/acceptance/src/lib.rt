@@ -203,7 +203,8 @@ fn sizes_fit(sets: usize, rules: usize, parts: usize) -> bool
     parts <= ruledef::MOST_PARTS
 }
 
-// Whether the words are a table, as document 01 has it; if not, number 2.
+// Whether the words are a table, as document 01 has it; if not, number 2. A test, and no Result: there is one refusal, and
+// nothing to tell of it.
 pub fn check_table(table: &[u16]) -> bool
     ensures answers { result ≡ table_fits table.now }
 {

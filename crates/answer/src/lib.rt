@@ -30,7 +30,7 @@ const HEAD: usize = 2;
 // The depth of a top rule's match.
 const TOP: usize = 0;
 
-// Measures the answer.
+// Measures the answer. Store and number of records come side by side, as those who read a line have them.
 pub fn measure_answer(table: &[u16], store: &[usize], used: usize) -> Measure
     requires stored { Stored store.now used }
     requires counted { Counted (scene_of table.now [] []) (log_of store.now used) }

@@ -150,8 +150,11 @@ fn row_fits_by<const N: usize>(sheet: &[u8], places: &[u8], n: usize, c: usize) 
 {
     let last = n + 1 - N;
     let mut odd = false;
-    for l in (c..last).step_by(N) {
+    // By hand: with `step_by` (proved) a check takes up to a tenth more instructions, from 15 bytes on.
+    let mut l = c;
+    while l < last {
         odd = odd | odd_from::<N>(sheet, places, n, c, l);
+        l += N;
     }
     !(odd | odd_from::<N>(sheet, places, n, c, last))
 }

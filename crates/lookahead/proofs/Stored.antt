@@ -22,8 +22,7 @@ use Rattle.readings.specs.Scene.{Scene, walker_at, scene_of}
 use Rattle.readings.proofs.Packed.{lawful}
 use Rattle.readings.specs.Walk.{lookahead, cut_by, cut_for, list_of, unless, any_same, same_end, free_under, ends, limits}
 use Rattle.lookahead.specs.Held.{held_ends, held_limits, added}
-use Rattle.lookahead.specs.declared.Ends.{Ends}
-use Rattle.lookahead.specs.declared.Limits.{Limits}
+use Rattle.lookahead.specs.declared.Few.{Few}
 use Rattle.lookahead.proofs.Added.{added-few}
 use Rattle.lookahead.proofs.Choices.{sheet-free, ends-added}
 
@@ -75,18 +74,18 @@ any-listed same (x ∷ xs) y = ap (λ (b : Bool). same x y || b) (any-listed sam
 
 -- ---- one candidate more
 
-module _ (same : ℕ → ℕ → Bool) (es : List ℕ) (x : Ends) (is : x ≡ held_ends es) (few : x.count < 3) where
+module _ (same : ℕ → ℕ → Bool) (es : List ℕ) (x : Few 3) (is : x ≡ held_ends es) (few : x.count < 3) where
   many : x.count ≡ length es
   unfolding held_ends
-  many = ap (λ (y : Ends). y.count) is
+  many = ap (λ (y : Few 3). y.count) is
 
   stored : x.places ≡ listed 3 (λ j. get_or es j 0)
   unfolding held_ends
-  stored = ap (λ (y : Ends). y.places) is
+  stored = ap (λ (y : Few 3). y.places) is
 
   listed-ends : take x.count x.places ≡ es
   unfolding held_ends
-  listed-ends = ap (λ (y : Ends). take y.count y.places) is ∙ read_back 3 es (omega (arith, many))
+  listed-ends = ap (λ (y : Few 3). take y.count y.places) is ∙ read_back 3 es (omega (arith, many))
 
   module _ (o : Option ℕ) where
     pub add_none : o ≡ None → x ≡ held_ends (added same es o)
@@ -106,7 +105,7 @@ module _ (same : ℕ → ℕ → Bool) (es : List ℕ) (x : Ends) (is : x ≡ he
       add_same h = is ∙ ap held_ends (sym (judged true h ∙ append-nil es))
 
       -- any other is the last
-      pub add-new : b ≡ false → ◌≡◌ {A = Ends} (record { count = x.count + 1; places = set x.places x.count e }) (held_ends (added same es o))
+      pub add-new : b ≡ false → ◌≡◌ {A = Few 3} (record { count = x.count + 1; places = set x.places x.count e }) (held_ends (added same es o))
       unfolding held_ends
       add-new h = (λ i. record { count = counted i; places = placed i }) ∙ ap held_ends (sym (judged false h))
         where
@@ -149,19 +148,19 @@ module _ (t line sheet : List ℕ) (good : sheet_fits sheet (length line) ≡ tr
 
 -- ---- the ends
 
-pub held_none : ◌≡◌ {A = Ends} (record { count = 0; places = 0 ∷ 0 ∷ 0 ∷ [] }) (held_ends [])
+pub held_none : ◌≡◌ {A = Few 3} (record { count = 0; places = 0 ∷ 0 ∷ 0 ∷ [] }) (held_ends [])
 unfolding held_ends listed range
 held_none = refl
 
 -- after one candidate there is room for two more, and after two for one
-module _ (same : ℕ → ℕ → Bool) (a : Option ℕ) (x : Ends) where
+module _ (same : ℕ → ℕ → Bool) (a : Option ℕ) (x : Few 3) where
   pub room-two : x ≡ held_ends (added same [] a) → x.count < 3
   unfolding held_ends
-  room-two is = omega (arith, ap (λ (y : Ends). y.count) is, added-few same [] a)
+  room-two is = omega (arith, ap (λ (y : Few 3). y.count) is, added-few same [] a)
 
   pub room-three : (b : Option ℕ) → x ≡ held_ends (added same (added same [] a) b) → x.count < 3
   unfolding held_ends
-  room-three b is = omega (arith, ap (λ (y : Ends). y.count) is, added-few same [] a, added-few same (added same [] a) b)
+  room-three b is = omega (arith, ap (λ (y : Few 3). y.count) is, added-few same [] a, added-few same (added same [] a) b)
 
 module _ (t line sheet : List ℕ) (w : Walker) (l c : ℕ) (limit_is : l ≡ w.limit) (cursor-is : c ≡ w.cursor) (ps : List Part) (a b g : Option ℕ) (cut : Option ℕ)
     (first : a ≡ free_end sheet (length line) c l)
@@ -194,10 +193,10 @@ module _ (s : Scene) (l c : ℕ) (ps : List Part) (cut : Option ℕ) (at : cut �
   told o is = ap (λ (x : Option ℕ). held_limits (l ∷ list_of x)) (sym is ∙ at)
 
   module _ (k : ℕ) (limit_is : k ≡ l) where
-    pub limits-cut : (m : ℕ) → cut ≡ Some m → ◌≡◌ {A = Limits} (record { count = 2; places = k ∷ m ∷ [] }) (held_limits (limits s l c ps))
+    pub limits-cut : (m : ℕ) → cut ≡ Some m → ◌≡◌ {A = Few 2} (record { count = 2; places = k ∷ m ∷ [] }) (held_limits (limits s l c ps))
     unfolding held_limits listed range
     limits-cut m is = ap (λ (n : ℕ). record { count = 2; places = n ∷ m ∷ [] }) limit_is ∙ told (Some m) is
 
-    pub limits-whole : cut ≡ None → ◌≡◌ {A = Limits} (record { count = 1; places = k ∷ 0 ∷ [] }) (held_limits (limits s l c ps))
+    pub limits-whole : cut ≡ None → ◌≡◌ {A = Few 2} (record { count = 1; places = k ∷ 0 ∷ [] }) (held_limits (limits s l c ps))
     unfolding held_limits listed range
     limits-whole is = ap (λ (n : ℕ). record { count = 1; places = n ∷ 0 ∷ [] }) limit_is ∙ told None is

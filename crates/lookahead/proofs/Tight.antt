@@ -4,8 +4,7 @@ use mathlib.Core.Path.{◌≡◌}
 use Rattle.std.specs.Prelude.{Option}
 use Prim.Native.Nat.{ℕ}
 use Rattle.plain.proofs.Answers.{one_answer}
-use Rattle.lookahead.specs.declared.Ends.{Ends}
-use Rattle.lookahead.specs.declared.Limits.{Limits}
+use Rattle.lookahead.specs.declared.Few.{Few}
 use Rattle.lookahead.proofs.find_lookahead_char.Reads as find-lookahead-char
 use Rattle.lookahead.proofs.find_cut.Reads as find-cut
 use Rattle.lookahead.proofs.find_ends.Reads as find-ends
@@ -17,8 +16,8 @@ find_lookahead_char-tight κs a r s x y = one_answer
 pub find_cut-tight : (κs a : _) (r s : Option ℕ) (x y : _) → find-cut.Post κs a r x → find-cut.Post κs a s y → r ≡ s
 find_cut-tight κs a r s x y = one_answer
 
-pub find_ends-tight : (κs a : _) (r s : Ends) (x y : _) → find-ends.Post κs a r x → find-ends.Post κs a s y → r ≡ s
+pub find_ends-tight : (κs a : _) (r s : Few 3) (x y : _) → find-ends.Post κs a r x → find-ends.Post κs a s y → r ≡ s
 find_ends-tight κs a r s x y = one_answer
 
-pub find_limits-tight : (κs a : _) (r s : Limits) (x y : _) → find-limits.Post κs a r x → find-limits.Post κs a s y → r ≡ s
+pub find_limits-tight : (κs a : _) (r s : Few 2) (x y : _) → find-limits.Post κs a r x → find-limits.Post κs a s y → r ≡ s
 find_limits-tight κs a r s x y = one_answer

@@ -23,18 +23,21 @@ use useful::PLACES;
 // How many limits there are with a cut.
 const WITH_CUT: usize = 2;
 
-// An expression's candidate ends, in their order; 0 past their count.
+// Some places in their order, at most N: an expression's candidate ends, or the limits of a nested step. 0 past their count.
 #[derive(Clone, Copy)]
-pub struct Ends {
+pub struct Few<const N: usize> {
     pub count: usize,
-    pub places: [usize; 3],
+    pub places: [usize; N],
 }
 
-// The limits of a nested step, in their order; 0 past their count.
-#[derive(Clone, Copy)]
-pub struct Limits {
-    pub count: usize,
-    pub places: [usize; 2],
+impl<const N: usize> Few<N> {
+    // The places that there are.
+    fn as_slice(&self) -> &[usize]
+        requires { self.now.count ≤ N }
+        ensures { result.now ≡ take self.now.count self.now.places }
+    {
+        &self.places[..self.count]
+    }
 }
 
 // A place past the table is held to the table's end.
@@ -82,13 +85,19 @@ fn useful_place(line: &[u8], places: &[u8; PLACES], walker: Walker, end: usize) 
 }
 
 // Whether one of the ends has the same useful place under the limit.
-fn is_duplicate(line: &[u8], useful: &[u8; PLACES], walker: Walker, ends: Ends, end: usize) -> bool
+fn is_duplicate(
+    line: &[u8],
+    useful: &[u8; PLACES],
+    walker: Walker,
+    ends: Few<3>,
+    end: usize,
+) -> bool
     requires lent { Lent line.now useful.now }
     requires count_bound { ends.count ≤ 3 }
     ensures { result ≡ list_any (λ d. same_end line.now walker.limit d end) (take ends.count ends.places) }
 {
     let place = useful_place(line, useful, walker, end);
-    ends.places[..ends.count]
+    ends.as_slice()
         .iter()
         .any(|e| useful_place(line, useful, walker, *e) == place)
 }
@@ -99,9 +108,9 @@ fn add_end(
     line: &[u8],
     useful: &[u8; PLACES],
     walker: Walker,
-    ends: Ends,
+    ends: Few<3>,
     extent: Option<usize>,
-) -> Ends
+) -> Few<3>
     requires lent { Lent line.now useful.now }
     requires count_bound { ends.count < 3 }
     ensures { (es : List ℕ) → ends ≡ held_ends es → result ≡ held_ends (added (same_end line.now walker.limit) es extent) }
@@ -115,7 +124,7 @@ fn add_end(
     let count = ends.count;
     let mut places = ends.places;
     places[count] = end;
-    Ends {
+    Few {
         count: count + 1,
         places,
     }
@@ -139,7 +148,7 @@ pub fn find_ends(
     walker: Walker,
     at: usize,
     end: usize,
-) -> Ends
+) -> Few<3>
     requires lent { Lent line.now useful.now }
     requires line_value { sheet_fits sheet.now (length line.now) ≡ true }
     requires cursor_le_limit { walker.cursor ≤ walker.limit }
@@ -149,7 +158,7 @@ pub fn find_ends(
     let n = line.len();
     let c = walker.get_cursor_index();
     let l = walker.get_cursor_limit();
-    let none = Ends {
+    let none = Few {
         count: 0,
         places: [0; 3],
     };
@@ -160,16 +169,16 @@ pub fn find_ends(
 }
 
 // The limits under which a nested step tries its ruleset: l, and then the cut if there is one.
-pub fn find_limits(table: &[u16], line: &[u8], walker: Walker, at: usize, end: usize) -> Limits
+pub fn find_limits(table: &[u16], line: &[u8], walker: Walker, at: usize, end: usize) -> Few<2>
     ensures answers { result ≡ held_limits (limits (scene_of table.now line.now []) walker.limit walker.cursor (parts_between table.now at end)) }
 {
     let whole = walker.get_cursor_limit();
     match find_cut(table, line, walker, at, end) {
-        Some(cut) => Limits {
+        Some(cut) => Few {
             count: WITH_CUT,
             places: [whole, cut],
         },
-        None => Limits {
+        None => Few {
             count: 1,
             places: [whole, 0],
         },

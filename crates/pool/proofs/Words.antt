@@ -3,7 +3,7 @@ use Rattle.std.specs.Prelude.{Some, None}
 use mathlib.Core.Path.{◌≡◌, refl, sym, ap, ◌∙◌}
 use mathlib.Core.Bool.{Bool, true, false}
 use mathlib.Core.List.{List, [], ◌∷◌, ◌++◌, map, map-append}
-use Prim.Native.Nat.{ℕ, zero, suc, ◌+◌, ◌-◌, ◌*◌, ◌/◌, ◌%◌, ◌≤◌, ◌<◌}
+use Prim.Native.Nat.{ℕ, ◌+◌, ◌*◌, ◌/◌, ◌%◌, ◌≤◌, ◌<◌}
 use native.Mathlib.Omega.{arith}
 use native.Mathlib.Numerals.{add-one}
 use lib.ListN.{length, take, set, get_or, length-map, length-take, get_or-map}
@@ -26,11 +26,6 @@ unfolding kind_of
 kind-code Expr = refl
 kind-code (Nested m) = rw add-one
 
-pub kind-pred : (k : ℕ) → (k ≡ 0 → ⊥) → Nested (k - 1) ≡ kind_of k
-unfolding kind_of
-kind-pred zero h = absurd (h refl)
-kind-pred (suc k) h = ap Nested (omega arith)
-
 -- ---- words
 
 pub is-argument : (w : ℕ) → w % 2 ≡ 0 → argument_of (w / 2) ≡ decode w
@@ -40,18 +35,6 @@ is-argument w t = rw (decode, eq-eqb _ _ t)
 pub is-match : (w : ℕ) → (w % 2 ≡ 0 → ⊥) → match_of (w / 2) ≡ decode w
 unfolding decode
 is-match w t = rw (decode, ne_eqb _ _ t)
-
--- what reading a word by its digits finds
-pub reads-argument : (w : ℕ) (k : ArgumentKind) → w % 2 ≡ 0 → k ≡ kind_of (w / 2 / 8192 / 128 / 128 / 128)
-    → Kept (record { start = w / 2 / 8192 % 128; end = w / 2 / 8192 / 128 % 128; kind = k }) (w / 2 % 8192) (w / 2 / 8192 / 128 / 128 % 128) ≡ decode w
-unfolding argument_of
-reads-argument w k t e =
-    ap (λ (j : ArgumentKind). Kept (record { start = w / 2 / 8192 % 128; end = w / 2 / 8192 / 128 % 128; kind = j }) (w / 2 % 8192) (w / 2 / 8192 / 128 / 128 % 128)) e ∙ is-argument w t
-
-pub reads-match : (w : ℕ) → (w % 2 ≡ 0 → ⊥)
-    → Completed (w / 2 % 32) (w / 2 / 32 % 32) (w / 2 / 32 / 32 % 512) (w / 2 / 32 / 32 / 512 % 8192) (w / 2 / 32 / 32 / 512 / 8192 / 128 % 128) (w / 2 / 32 / 32 / 512 / 8192 % 128) ≡ decode w
-unfolding match_of
-reads-match w t = is-match w t
 
 digits-argument : (x y z v prev n k : ℕ) (a : Argument) → x % 8192 ≡ prev → x / 8192 ≡ y → y % 128 ≡ a.start → y / 128 ≡ z → z % 128 ≡ a.end → z / 128 ≡ v → v % 128 ≡ n → v / 128 ≡ k
     → k ≡ code_of a.kind → argument_of x ≡ Kept a prev n

@@ -175,6 +175,7 @@ fn code_of(kind: ArgumentKind) -> usize
     }
 }
 
+#[tactic(auto, unfolding(crate::specs::Log::kind_of))]
 fn kind_of(code: usize) -> ArgumentKind
     ensures { result ≡ kind_of code }
 {
@@ -186,6 +187,7 @@ fn kind_of(code: usize) -> ArgumentKind
 }
 
 // The record with a number.
+#[tactic(auto, unfolding(crate::specs::Log::decode, crate::specs::Log::argument_of, crate::specs::Log::match_of))]
 pub fn record_at(store: &[usize], i: usize) -> Record
     requires { i < length store.now }
     ensures answers { result ≡ decode (get_or store.now i 0) }

@@ -40,7 +40,8 @@ pub fn parse_prefix(line: &[u8]) -> Prefix
     Prefix { bytes, count }
 }
 
-// How a rule stands to a line's prefix: the length of its own prefix, or 5 if the line does not begin with that.
+// How a rule stands to a line's prefix: the length of its own prefix, or 5 if the line does not begin with that. A byte, and no
+// Option<u8>: tried, it is two bytes a mark, and a lookup among 8 to 512 rules took 2 to 5% more instructions.
 const FULL: u8 = 4;
 
 const MISSED: u8 = 5;

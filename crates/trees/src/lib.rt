@@ -11,7 +11,8 @@ ghost use Rattle.trees.specs.Same.{compared};
 
 use pool::{Argument, ArgumentKind, Records};
 
-// Whether two arguments are the same, as far as their own records say: nested ones are if their matches are.
+// Whether two arguments are the same, as far as their own records say: nested ones are if their matches are. No derived `==`,
+// which would compare record numbers: equal matches have different ones.
 #[derive(Clone, Copy)]
 enum Compared {
     Different,

@@ -17,7 +17,7 @@ use Rattle.readings.specs.Plan.{Plan, done, stop, run, each}
 use Rattle.readings.specs.Walk.{Found, ends}
 use Rattle.readings.proofs.Leaves.{alone}
 use Rattle.readings.proofs.Packed.{lawful}
-use Rattle.lookahead.specs.declared.Ends.{Ends}
+use Rattle.lookahead.specs.declared.Few.{Few}
 use Rattle.lookahead.specs.Held.{held_ends}
 use Rattle.lookahead.proofs.Choices.{ends-few, ends-within}
 use Rattle.pool.specs.declared.ArgumentKind.TheVariants.{Expr}
@@ -48,17 +48,17 @@ abbrev pub expr_from : List ℕ → List ℕ → List ℕ → Place → ℕ → 
 expr_from t line sheet place l g e = turn [] (expr_arg (min e g) e) (rule_plan t line sheet place.depth place.at place.end l e)
 
 -- the ends that the code holds
-module _ (s : Scene) (l c : ℕ) (ps : List Part) {es : Ends} (is : es ≡ held_ends (ends s l c ps)) where
+module _ (s : Scene) (l c : ℕ) (ps : List Part) {es : Few 3} (is : es ≡ held_ends (ends s l c ps)) where
   few : length (ends s l c ps) ≤ 3
   few = ends-few s l c ps
 
   pub ends-held : take es.count es.places ≡ ends s l c ps
   unfolding held_ends
-  ends-held = ap (λ (e : Ends). take e.count e.places) is ∙ held-is 3 (ends s l c ps) few
+  ends-held = ap (λ (e : Few 3). take e.count e.places) is ∙ held-is 3 (ends s l c ps) few
 
   pub ends-three : (es.count ≤ 3) × (length es.places ≡ 3)
   unfolding held_ends
-  ends-three = (omega (arith, ap (λ (e : Ends). e.count) is, few), ap (λ (e : Ends). length e.places) is ∙ listed-length 3 (λ j. get_or (ends s l c ps) j 0))
+  ends-three = (omega (arith, ap (λ (e : Few 3). e.count) is, few), ap (λ (e : Few 3). length e.places) is ∙ listed-length 3 (λ j. get_or (ends s l c ps) j 0))
 
 -- the loop's invariant
 abbrev pub ExprDid : List ℕ → List ℕ → List ℕ → Place → ℕ → ℕ → List ℕ → ℕ → ℕ → List ℕ → ℕ → ℕ → ℕ → List ℕ → Type 0

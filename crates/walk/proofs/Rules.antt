@@ -29,7 +29,7 @@ use Rattle.readings.proofs.Records.{rules-range, rule-parts, begins-order, few-r
 use Rattle.ruledef_map.specs.RuledefMap.{rule_prefix}
 use Rattle.leads.specs.Leads.{ahead_of, failing_of, Leads}
 use Rattle.leads.proofs.Told.{told-some, lead-tells}
-use Rattle.lookahead.specs.declared.Limits.{Limits}
+use Rattle.lookahead.specs.declared.Few.{Few}
 use Rattle.lookahead.specs.Held.{held_limits}
 use Rattle.lookahead.proofs.Choices.{limits-few, limits-within, sheet-free-limits}
 use Rattle.pool.specs.declared.Pool.{Pool}
@@ -63,7 +63,7 @@ RulesDid t line sheet depth group w n v₀ u₀ store₀ i v u store =
     Did t (rule_from t line sheet depth group w) itself (depth + 1) (take i (range 0 n)) v₀ u₀ store₀ v u store
 
 -- the limits that the code holds
-module _ (t line sheet : List ℕ) (l c : ℕ) (ps : List Part) {ls : Limits} (is : ls ≡ held_limits (limits (scene_of t line []) l c ps)) where
+module _ (t line sheet : List ℕ) (l c : ℕ) (ps : List Part) {ls : Few 2} (is : ls ≡ held_limits (limits (scene_of t line []) l c ps)) where
   abbrev xs : List ℕ
   xs = limits (scene_of t line sheet) l c ps
 
@@ -75,11 +75,11 @@ module _ (t line sheet : List ℕ) (l c : ℕ) (ps : List Part) {ls : Limits} (i
 
   pub limits-held : take ls.count ls.places ≡ limits (scene_of t line sheet) l c ps
   unfolding held_limits
-  limits-held = ap (λ (e : Limits). take e.count e.places) listed-there ∙ held-is 2 xs few
+  limits-held = ap (λ (e : Few 2). take e.count e.places) listed-there ∙ held-is 2 xs few
 
   pub limits-two : (ls.count ≤ 2) × (length ls.places ≡ 2)
   unfolding held_limits
-  limits-two = (omega (arith, ap (λ (e : Limits). e.count) listed-there, few), ap (λ (e : Limits). length e.places) listed-there ∙ listed-length 2 (λ j. get_or xs j 0))
+  limits-two = (omega (arith, ap (λ (e : Few 2). e.count) listed-there, few), ap (λ (e : Few 2). length e.places) listed-there ∙ listed-length 2 (λ j. get_or xs j 0))
 
 abbrev pub under_limit : List ℕ → List ℕ → List ℕ → ℕ → ℕ → ℕ → ℕ → Plan (List Match)
 under_limit t line sheet depth group c m = deeper t line sheet depth group m c

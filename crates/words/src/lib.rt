@@ -14,7 +14,8 @@ ghost use Rattle.trees.specs.Asked.{args_at, tree_length, args_length, TreeAsked
 
 use pool::{ArgumentKind, Records};
 
-// A tree's first words: ruleset, rule, argument count. And an argument's own: expression or nested, start, end.
+// A tree's first words: ruleset, rule, argument count. And an argument's own: expression or nested, start, end. The numbers of
+// the two kinds stand in the answer that C reads, as `arg_words` has them.
 const WORDS: usize = 3;
 
 const EXPRESSION: usize = 0;
@@ -60,6 +61,7 @@ fn count_arguments(records: Records, a: usize) -> usize
 {
     let mut count: usize = 0;
     let mut at = a;
+    // No `for`: each record says where the one before it is.
     while let Some((_, prev)) = pool::last_argument(records, at) {
         count += 1;
         at = prev;
