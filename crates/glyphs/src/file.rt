@@ -18,7 +18,7 @@ const TOO_LONG: i32 = 36;
 
 const NO_TEXT: i32 = 84;
 
-// What reading a file comes to.
+// What reading a file comes to: three things, so no Option and no Result.
 #[derive(Clone, Copy)]
 pub enum File {
     // All of it stands at the room's start.
