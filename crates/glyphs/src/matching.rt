@@ -1,4 +1,4 @@
-// A line of the input: its sheet is filled, both entry points are called, and what they answer is written. An empty line, and
+// A line of the input: its sheet is filled, both entry points are asked, and what they answer is written. An empty line, and
 // one that begins with `#`, is passed over.
 use crate::reading::{Answered, FIRST, ROOM, word};
 use crate::refusal::{put_bad_line, put_refusal};
@@ -70,7 +70,7 @@ impl<'a> Line<'a> {
         }
     }
 
-    // Calls both entry points.
+    // Asks the full scan, and prefix lookup too if it has readings.
     fn find<W: Write>(self, out: &mut W, table: Table, sheet: &[u8]) -> io::Result<Verdict> {
         let Line { text, base } = self;
         let mut found = [0u32; ROOM];
@@ -80,14 +80,7 @@ impl<'a> Line<'a> {
             return Ok(Verdict::Stops);
         }
         let mut again = [0u32; ROOM];
-        let lookup = matcher::match_with_ruledef_map(
-            table.words,
-            text,
-            sheet,
-            BUDGET,
-            base,
-            &mut again,
-        );
+        let _ = matcher::match_with_ruledef_map(table.words, text, sheet, BUDGET, base, &mut again);
         self.put_readings(out, table, &found, &again)
     }
 

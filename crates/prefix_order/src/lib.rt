@@ -95,8 +95,9 @@ fn put_run(order: &[usize], begin: usize, key: usize, rules: &mut [u16], from: u
 }
 
 // Writes the rules to try on a line, to the start of the room that is lent, since memory is fixed: those of its prefix's
-// beginnings, the shortest first, and within one length in table order. A key goes along: one byte more adds that byte at its weight; and as no byte is 0 the keys ascend, so each run is
-// sought from the end of the last. The table is lent for the promise alone: its order says all that is needed.
+// beginnings, the shortest first, and within one length in table order. A key goes along: one byte more adds that byte at its
+// weight; and as no byte is 0 the keys ascend, so each run is sought from the end of the last. The table is lent for the
+// promise alone: its order says all that is needed.
 pub fn find_rules(table: &[u16], order: &[usize], line: &[u8], rules: &mut [u16]) -> usize
     requires { FindAsked table.now order.now line.now rules.old }
     ensures answers { take result rules.new ≡ found_rules table.now (line_prefix line.now) }

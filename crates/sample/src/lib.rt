@@ -6,6 +6,7 @@
 ghost use Rattle.std.specs.Prelude.{◌≡◌, ◌+◌, ◌≤◌, ◌++◌, length, take, drop, min, slice_index, if◌then◌else◌, ◌==◌, codes, decimal, None, Some, IfSome, IfOk, OnOk, OnErr};
 ghost use Rattle.std.specs.Io.{ReadsAtMost};
 ghost use Rattle.std.specs.Io.KnownBytes.{Appends};
+ghost use Rattle.sample.specs.declared.Stop.TheVariants.{Io};
 
 use std::io;
 use std::io::{Read, Write};
@@ -22,6 +23,8 @@ pub enum Stop {
 }
 
 impl From<io::Error> for Stop {
+    ghost from_gives = { λ error stop. stop ≡ Io error };
+
     fn from(error: io::Error) -> Stop {
         Stop::Io(error)
     }

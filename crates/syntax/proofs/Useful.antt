@@ -79,16 +79,21 @@ abbrev pub Skipped : List ℕ → ℕ → ℕ → ℕ → Type 0
 Skipped line from end at = (at ≤ end) × (useful_from line at end ≡ useful_from line from end)
 
 module _ (line : List ℕ) (from end : ℕ) (fits : end ≤ length line) where
-  pub skip-stops : (at : ℕ) → Skipped line from end at → at < end → is_whitespace (byte_at line at) ≡ false → at ≡ useful_from line from end
-  skip-stops at h l f = sym (useful-here line end fits at l f) ∙ h.1
+  pub skip-stops : (at : ℕ) → Skipped line from end at → at < end → is_whitespace (byte_at line at) ≡ false → (at ≡ useful_from line from end) × (at ≤ end)
+  skip-stops at h l f = (sym (useful-here line end fits at l f) ∙ h.1, h.0)
 
   pub skip_goes_on : (at : ℕ) → Skipped line from end at → at < end → is_whitespace (byte_at line at) ≡ true → Skipped line from end (at + 1)
   skip_goes_on at h l w = (omega arith, useful-later line end fits at l w ∙ h.1)
 
-  pub skip-ends : (at : ℕ) → Skipped line from end at → end ≤ at → end ≡ useful_from line from end
+  pub skip-ends : (at : ℕ) → Skipped line from end at → end ≤ at → (at ≡ useful_from line from end) × (at ≤ end)
   skip-ends at h l =
       let last : at ≡ end = omega arith in
-      sym (useful-end line end fits) ∙ ap (λ (n : ℕ). useful_from line n end) (sym last) ∙ h.1
+      (last ∙ sym (useful-end line end fits) ∙ ap (λ (n : ℕ). useful_from line n end) (sym last) ∙ h.1, h.0)
+
+  pub skip-over : (at : ℕ) → Skipped line from end at → end ≤ at → end ≡ useful_from line from end
+  skip-over at h l =
+      let last : at ≡ end = omega arith in
+      sym last ∙ (skip-ends at h l).0
 
 -- a walker within its line
 abbrev pub InLine : List ℕ → Walker → Type 0

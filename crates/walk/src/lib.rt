@@ -70,6 +70,7 @@ pub struct Walked {
     pub pool: Pool,
 }
 
+// Why a walk may go no further.
 #[derive(Clone, Copy)]
 pub enum Refusal {
     // The next visit would exceed the budget.
