@@ -6,6 +6,7 @@
 
 ghost use Rattle.std.specs.Prelude.{◌≡◌, true, List, ℕ, ◌≤◌, length, None, Err};
 ghost use Rattle.defs.specs.Table.{table_fits};
+ghost use Rattle.defs.specs.Ruledef.{starts_of};
 ghost use Rattle.line.specs.Line.{fault_at};
 ghost use Rattle.readings.specs.Plan.{room};
 ghost use Rattle.readings.specs.Call.{call_with};
@@ -75,67 +76,68 @@ impl From<Result<Matched, Refused>> for Row {
     }
 }
 
+// Prepares the table for all lines, in room that the call has: handed back by value, so much would be copied by the C library's
+// `memcpy`, and the archive asks it for `memset` alone.
+fn prepare(
+    table: &[u16],
+    how: Order,
+    starts: &[u16],
+    places: &mut [RulePlace],
+    leads: &mut [u32],
+    order: &mut [usize],
+    rules: &mut [u16],
+) -> usize
+    requires table_value { table_fits table.now ≡ true }
+    requires starts_value { starts.now ≡ starts_of table.now }
+    requires places_len { length places.old ≡ 512 }
+    requires order_len { length order.old ≡ 512 }
+    requires rules_len { length rules.old ≡ 512 }
+    requires leads_2 { Leads table.now leads.old }
+    ensures ready { Ready how table.now starts.now places.new order.new rules.new result }
+    ensures leads { Leads table.now leads.new }
+{
+    let tops = ruledef_map::top_rules(table, rules);
+    places::place_rules(table, starts, &rules[..tops], places);
+    trials::lead_rules(table, starts, places, &rules[..tops], how, leads);
+    match how {
+        Order::Scan => {}
+        Order::Lookup => {
+            let mut spare = [0usize; ruledef::MOST_RULES];
+            prefix_order::order_rules(
+                table,
+                places,
+                &rules[..tops],
+                &mut order[..tops],
+                &mut spare,
+            );
+        }
+    }
+    tops
+}
+
 // The groundwork of a program: its table, prepared once for all lines. `rules` of its methods is a buffer that has the table's
 // top rules for a scan, and the rules of the latest line for lookup.
-#[derive(Drop)]
-struct Groundwork {
+#[derive(Clone, Copy)]
+struct Groundwork<'a> {
     how: Order,
     // Where the table's rulesets begin.
-    starts: [u16; 33],
+    starts: &'a [u16],
     // The places of the top rules, and the leads by which rules are told to fail.
-    places: [RulePlace; ruledef::MOST_RULES],
-    leads: [u32; ruledef::MOST_RULES],
+    places: &'a [RulePlace],
+    leads: &'a [u32; ruledef::MOST_RULES],
     // For lookup, the top rules in prefix order.
-    order: [usize; ruledef::MOST_RULES],
+    order: &'a [usize],
     // How many top rules there are.
     tops: usize,
 }
 
-impl Groundwork {
-    // Prepares the table for all lines.
-    fn prepare(table: &[u16], how: Order, rules: &mut [u16]) -> Groundwork
-        requires table_value { table_fits table.now ≡ true }
-        requires rules_len { length rules.old ≡ 512 }
-        ensures ready { Ready how table.now result.starts result.places result.order rules.new result.tops }
-        ensures how { result.how ≡ how }
-        ensures leads { Leads table.now result.leads }
-    {
-        let starts = ruledef::ruleset_starts(table);
-        let tops = ruledef_map::top_rules(table, rules);
-        let mut places = places::NONE;
-        places::place_rules(table, &starts, &rules[..tops], &mut places);
-        let mut leads = [0u32; ruledef::MOST_RULES];
-        trials::lead_rules(table, &starts, &places, &rules[..tops], how, &mut leads);
-        let mut order = [0usize; ruledef::MOST_RULES];
-        match how {
-            Order::Scan => {}
-            Order::Lookup => {
-                let mut spare = [0usize; ruledef::MOST_RULES];
-                prefix_order::order_rules(
-                    table,
-                    &places,
-                    &rules[..tops],
-                    &mut order[..tops],
-                    &mut spare,
-                );
-            }
-        }
-        Groundwork {
-            how,
-            starts,
-            places,
-            leads,
-            order,
-            tops,
-        }
-    }
-
+impl<'a> Groundwork<'a> {
     // The rules to try on a line, at the buffer's start: a scan's stand there already.
     fn choose_rules(&self, table: &[u16], line: &[u8], rules: &mut [u16]) -> usize
         requires table_value { table_fits table.now ≡ true }
         requires line_value { fault_at line.now ≡ None }
-        requires ordered { Ordered self.now.how table.now self.now.order rules.old self.now.tops }
-        ensures { ChosenFor self.now.how table.now line.now self.now.order rules.new self.now.tops result }
+        requires ordered { Ordered self.now.how table.now self.now.order.now rules.old self.now.tops }
+        ensures { ChosenFor self.now.how table.now line.now self.now.order.now rules.new self.now.tops result }
     {
         match self.how {
             Order::Scan => self.tops,
@@ -155,11 +157,11 @@ impl Groundwork {
         store: &mut [usize],
         answer: &mut [u32],
     ) -> Result<Matched, Refused>
-        requires ready { Ready self.now.how table.now self.now.starts self.now.places self.now.order rules.old self.now.tops }
+        requires ready { Ready self.now.how table.now self.now.starts.now self.now.places.now self.now.order.now rules.old self.now.tops }
         requires store_len { length store.old ≡ room }
-        requires leads { Leads table.now self.now.leads }
+        requires leads { Leads table.now self.now.leads.now }
         ensures tells { says result answer.new ≡ call_with (order_of self.now.how) table.now line.now sheet.now budget base answer.old }
-        ensures keeps { Ordered self.now.how table.now self.now.order rules.new self.now.tops }
+        ensures keeps { Ordered self.now.how table.now self.now.order.now rules.new self.now.tops }
     {
         trials::check(line, sheet, budget, base)?;
         let count = self.choose_rules(table, line, rules);
@@ -169,9 +171,9 @@ impl Groundwork {
             sheet,
             budget,
             base,
-            &self.starts,
-            &self.leads,
-            &self.places,
+            self.starts,
+            self.leads,
+            self.places,
             &rules[..count],
             self.how,
             store,
@@ -194,10 +196,10 @@ impl Groundwork {
         rows: &mut [u32],
         answers: &mut [u32],
     ) -> usize
-        requires ready { Ready self.now.how table.now self.now.starts self.now.places self.now.order rules.old self.now.tops }
+        requires ready { Ready self.now.how table.now self.now.starts.now self.now.places.now self.now.order.now rules.old self.now.tops }
         requires store_len { length store.old ≡ room }
         requires rows_value { program_fits (length text.now) ends.now (length sheets.now) (length budgets.now) (length bases.now) (length rows.old) ≡ true }
-        requires leads { Leads table.now self.now.leads }
+        requires leads { Leads table.now self.now.leads.now }
         ensures runs { record { rows = rows.exit.now; words = result; answers = answers.new } ≡ run_lines (line_call (order_of self.now.how) table.now) (lines_of text.now ends.now sheets.now budgets.now bases.now) 0 answers.old }
         ensures few { result ≤ 3222798848 }
     {
@@ -258,8 +260,28 @@ fn run_program(
     ) {
         return Err(ProgramError::BadProgram);
     }
+    let starts = ruledef::ruleset_starts(table);
+    let mut places = places::NONE;
+    let mut leads = [0u32; ruledef::MOST_RULES];
+    let mut order = [0usize; ruledef::MOST_RULES];
     let mut rules = [0u16; ruledef::MOST_RULES];
-    let groundwork = Groundwork::prepare(table, how, &mut rules);
+    let tops = prepare(
+        table,
+        how,
+        &starts,
+        &mut places,
+        &mut leads,
+        &mut order,
+        &mut rules,
+    );
+    let groundwork = Groundwork {
+        how,
+        starts: &starts,
+        places: &places,
+        leads: &leads,
+        order: &order,
+        tops,
+    };
     let mut store = [0usize; Pool::ROOM];
     let words = groundwork.run_lines(
         table, text, ends, sheets, budgets, bases, &mut rules, &mut store, rows, answers,
