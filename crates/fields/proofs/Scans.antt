@@ -9,15 +9,15 @@ use Prim.Native.Nat.{ℕ, suc, ◌+◌, ◌*◌, ◌-◌, ◌/◌, ◌%◌, ◌�
 use native.Mathlib.Decide.{dec_lt, dec_le}
 use native.Mathlib.Omega.{arith}
 use lib.Dec.{eqb, leb, ltb}
-use lib.ListN.{length, get_or, take, drop, length-drop, take-append-drop}
+use lib.ListN.{length, get_or, take, drop, length-drop, take-append-drop, drop_of_length-le}
 use lib.Seq.{drop-cons, take-length}
 use lib.Pointwise.{pointwise}
-use borrow.Author.Tests.{leb-true, eqb-true, ne_eqb, le-leb, lt-ltb, le-ltb, lt-leb}
+use borrow.Author.Tests.{leb-true, eqb-true, ne_eqb, eq-eqb, le-leb, lt-ltb, le-ltb, lt-leb}
 use Rattle.std.proofs.lemmas.List.Sums.{prefix_len_stops, prefix_len-le-length}
 use Rattle.plain.specs.Choice.{select}
 use Rattle.plain.specs.Lists.{every}
 use Rattle.plain.proofs.Options.{none-ne-some, some-ne-none, some_inj}
-use Rattle.plain.proofs.Tests.{tested, not-both, and_left, and_right, and_both, and-false-right}
+use Rattle.plain.proofs.Tests.{tested, not-both, and_left, and_right, and_both, and-false-left, and-false-right}
 use Rattle.defs.specs.Table.{is_part}
 use Rattle.defs.specs.declared.ruledef.Part.TheVariants.{Exact, Whitespace, Expression}
 use Rattle.printing.specs.Listing.{Bytes, ws_word, expr_word, sub_word, decimal}
@@ -96,6 +96,34 @@ two_bytes (b ∷ (c ∷ (e ∷ x))) h = absurd (omega arith)
 -- what is cut is cut into pieces
 pub cut-pieces : (byte : ℕ) (t x y : Bytes) → Cut t byte x y → pieces byte t ≡ x ∷ pieces byte y
 cut-pieces byte t x y c = ap (pieces byte) c.is ∙ piece-first byte x y c.lacking
+
+-- ---- bytes compared
+
+pub same_not : (x y : Bytes) → (length x ≡ length y → ⊥) → same x y ≡ false
+same_not x y n = go (tested (same x y))
+  where
+    go : (same x y ≡ true) ⊎ (same x y ≡ false) → same x y ≡ false
+    go (inl h) = absurd (n (ap length (same_true x y h)))
+    go (inr h) = h
+
+module _ (f w : Bytes) (i : ℕ) (here : i < length f) (low : i < length w) where
+  heads : same (drop i f) (drop i w) ≡ (eqb (get_or f i 0) (get_or w i 0) && same (drop (i + 1) f) (drop (i + 1) w))
+  unfolding same
+  heads =
+      let q : suc i ≡ i + 1 = omega arith in
+      ap₂ same
+      (drop-cons f i 0 here ∙ ap (λ (n : ℕ). get_or f i 0 ∷ drop n f) q)
+      (drop-cons w i 0 low ∙ ap (λ (n : ℕ). get_or w i 0 ∷ drop n w) q)
+
+  pub same_step : get_or f i 0 ≡ get_or w i 0 → same (drop (i + 1) f) (drop (i + 1) w) ≡ same (drop i f) (drop i w)
+  same_step e = sym (heads ∙ ap (λ (b : Bool). b && same (drop (i + 1) f) (drop (i + 1) w)) (eq-eqb (get_or f i 0) (get_or w i 0) e))
+
+  pub same_stop : (get_or f i 0 ≡ get_or w i 0 → ⊥) → same (drop i f) (drop i w) ≡ false
+  same_stop n = heads ∙ and-false-left _ _ (ne_eqb (get_or f i 0) (get_or w i 0) n)
+
+pub same_over : (f w : Bytes) (i : ℕ) → length f ≤ i → length w ≤ i → same (drop i f) (drop i w) ≡ true
+unfolding same
+same_over f w i h l = ap₂ same (drop_of_length-le f {i = i} h) (drop_of_length-le w {i = i} l)
 
 pub same_pointwise : (x y : Bytes) → pointwise eqb x y ≡ same x y
 unfolding same

@@ -49,12 +49,20 @@ impl<'a> Iterator for Fields<'a> {
     }
 }
 
-// Whether a field is a word, compared byte for byte: `==` of slices, told as `same`, by which a listing's meaning is defined.
-#[tactic(auto, using(crate::proofs::Scans::same_pointwise))]
+// Whether a field is a word, compared byte for byte. By hand: `==` of slices is a call that is made for long ones, and words have
+// few bytes, so that reading a table took a third more instructions.
 pub fn is_word(field: &[u8], word: &[u8]) -> bool
     ensures answers { result ≡ same field.now word.now }
 {
-    field == word
+    if field.len() != word.len() {
+        return false;
+    }
+    for at in 0..word.len() {
+        if field[at] != word[at] {
+            return false;
+        }
+    }
+    true
 }
 
 fn digit(byte: u8) -> Option<usize>
