@@ -71,8 +71,11 @@ pub fn find_lookahead_char(table: &[u16], at: usize, end: usize) -> Option<u8>
 pub fn find_cut(table: &[u16], line: &[u8], walker: Walker, at: usize, end: usize) -> Option<usize>
     ensures answers { result ≡ cut_for (scene_of table.now line.now []) walker.limit walker.cursor (parts_between table.now at end) }
 {
-    let wanted = find_lookahead_char(table, at, end)?;
-    walker.find_lookahead_char_index(line, wanted)
+    // Both cases by name and no `?`, so that a wrong answer without a character is refused by its value.
+    match find_lookahead_char(table, at, end) {
+        Some(wanted) => walker.find_lookahead_char_index(line, wanted),
+        None => None,
+    }
 }
 
 // The useful place of an end under the walker's limit, by the useful places of the line.
