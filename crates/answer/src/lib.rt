@@ -61,7 +61,7 @@ fn add_match(table: &[u16], records: Records, m: usize, found: Measure) -> Measu
     if count < found.greatest {
         return found;
     }
-    let words = words::tree_words(records, m);
+    let words = words::tree_words(&records, m);
     if count == found.greatest {
         return Measure {
             matches: found.matches + 1,
@@ -104,7 +104,7 @@ pub fn write_answer(
         if pool::depth_at(store, m) == Some(TOP) {
             let count = pool::count_at(store, m);
             if count == greatest {
-                at = words::write_tree(records, m, base, answer, at);
+                at = words::write_tree(&records, m, base, answer, at);
             }
         }
     }

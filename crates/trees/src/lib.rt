@@ -33,27 +33,28 @@ fn compare(x: Argument, y: Argument) -> Compared
     }
 }
 
-// Whether two matches have the same ruleset, rule and argument spans, all the way down.
+// Whether two matches have the same ruleset, rule and argument spans, all the way down. The records are lent: by value each step
+// would copy their three words.
 #[cycle(is_same_same_arguments)]
-pub fn is_same(records: Records, a: usize, b: usize) -> bool
-    requires a_lt_used { a < records.used }
-    requires b_lt_used { b < records.used }
-    ensures answers { result ≡ same_tree (tree_at (entries records.entry.store.now records.entry.used) a) (tree_at (entries records.entry.store.now records.entry.used) b) }
+pub fn is_same(records: &Records, a: usize, b: usize) -> bool
+    requires a_lt_used { a < records.now.used }
+    requires b_lt_used { b < records.now.used }
+    ensures answers { result ≡ same_tree (tree_at (entries records.now.store.now records.now.used) a) (tree_at (entries records.now.store.now records.now.used) b) }
 {
-    let x = pool::match_at(records, a);
-    let y = pool::match_at(records, b);
+    let x = pool::match_at(*records, a);
+    let y = pool::match_at(*records, b);
     x.set == y.set && x.rule == y.rule && same_arguments(records, x.args, y.args)
 }
 
 // Whether arguments up to a last one and up to another are the same: the last ones are, and those before them.
 #[cycle(is_same_same_arguments)]
-fn same_arguments(records: Records, a: usize, b: usize) -> bool
-    requires a_le_used { a ≤ records.used }
-    requires b_le_used { b ≤ records.used }
-    ensures { result ≡ same_args (args_at (entries records.entry.store.now records.entry.used) a) (args_at (entries records.entry.store.now records.entry.used) b) }
+fn same_arguments(records: &Records, a: usize, b: usize) -> bool
+    requires a_le_used { a ≤ records.now.used }
+    requires b_le_used { b ≤ records.now.used }
+    ensures { result ≡ same_args (args_at (entries records.now.store.now records.now.used) a) (args_at (entries records.now.store.now records.now.used) b) }
 {
-    let last = pool::last_argument(records, a);
-    let other = pool::last_argument(records, b);
+    let last = pool::last_argument(*records, a);
+    let other = pool::last_argument(*records, b);
     match (last, other) {
         (None, None) => true,
         (Some((x, p)), Some((y, q))) => match compare(x, y) {

@@ -139,7 +139,7 @@ fn is_duplicate(records: Records, first: usize, m: usize, depth: usize) -> bool
     ensures { (e : ℕ) → result ≡ any_same same_match (gathered depth (made (entries records.entry.store.now records.entry.used) first m)) (tree_at (entries records.entry.store.now records.entry.used) m, e) }
 {
     for i in first..m {
-        if pool::depth_at(records.store, i) == Some(depth) && trees::is_same(records, i, m) {
+        if pool::depth_at(records.store, i) == Some(depth) && trees::is_same(&records, i, m) {
             return true;
         }
     }

@@ -22,47 +22,46 @@ const EXPRESSION: usize = 0;
 
 const NESTED: usize = 1;
 
-// How many answer words a match has.
+// How many answer words a match has. Here and below the records are lent: by value each step would copy their three words.
 #[cycle(argument_words_tree_words)]
-pub fn tree_words(records: Records, m: usize) -> usize
-    requires { TreeAsked tree_length 16777216 records.store.now records.used m }
-    ensures answers { result ≡ length (tree_words (tree_at (entries records.entry.store.now records.entry.used) m)) }
+pub fn tree_words(records: &Records, m: usize) -> usize
+    requires { TreeAsked tree_length 16777216 records.now.store.now records.now.used m }
+    ensures answers { result ≡ length (tree_words (tree_at (entries records.now.store.now records.now.used) m)) }
 {
-    let head = pool::match_at(records, m);
+    let head = pool::match_at(*records, m);
     WORDS + argument_words(records, head.args)
 }
 
 // How many answer words arguments up to a last one have.
 #[cycle(argument_words_tree_words)]
-fn argument_words(records: Records, a: usize) -> usize
-    requires { ArgsAsked args_length 16777216 records.store.now records.used a }
-    ensures { result ≡ length (arg_words (args_at (entries records.entry.store.now records.entry.used) a)) }
+fn argument_words(records: &Records, a: usize) -> usize
+    requires { ArgsAsked args_length 16777216 records.now.store.now records.now.used a }
+    ensures { result ≡ length (arg_words (args_at (entries records.now.store.now records.now.used) a)) }
 {
-    match pool::last_argument(records, a) {
+    match pool::last_argument(*records, a) {
         None => 0,
-        Some((argument, prev)) => {
-            let before = argument_words(records, prev);
-            match argument.kind {
-                ArgumentKind::Expr => before + WORDS,
-                ArgumentKind::Nested(m) => {
-                    let inner = tree_words(records, m);
-                    before + WORDS + inner
-                }
+        // Each kind asks for what is before it itself: what comes last in a step is then a loop.
+        Some((argument, prev)) => match argument.kind {
+            ArgumentKind::Expr => argument_words(records, prev) + WORDS,
+            ArgumentKind::Nested(m) => {
+                let before = argument_words(records, prev);
+                let inner = tree_words(records, m);
+                before + WORDS + inner
             }
-        }
+        },
     }
 }
 
 // How many arguments there are up to a last one.
-fn count_arguments(records: Records, a: usize) -> usize
-    requires a_le_used { a ≤ records.used }
-    ensures value { result ≡ arg_count (args_at (entries records.entry.store.now records.entry.used) a) }
+fn count_arguments(records: &Records, a: usize) -> usize
+    requires a_le_used { a ≤ records.now.used }
+    ensures value { result ≡ arg_count (args_at (entries records.now.store.now records.now.used) a) }
     ensures upper_bound { result ≤ a }
 {
     let mut count: usize = 0;
     let mut at = a;
     // No `for`: each record says where the one before it is.
-    while let Some((_, prev)) = pool::last_argument(records, at) {
+    while let Some((_, prev)) = pool::last_argument(*records, at) {
         count += 1;
         at = prev;
     }
@@ -85,13 +84,13 @@ fn write_words(answer: &mut [u32], at: usize, x: usize, y: usize, z: usize) -> u
 
 // A match's words in the answer from a place on, and the place after them.
 #[cycle(write_arguments_write_tree)]
-pub fn write_tree(records: Records, m: usize, base: usize, answer: &mut [u32], at: usize) -> usize
-    requires m_lt_used { m < records.used }
-    requires fit { Fit (tree_words (moved base (tree_at (entries records.store.now records.used) m))) }
-    requires m_in_bounds { at + length (tree_words (tree_at (entries records.store.now records.used) m)) ≤ length answer.old }
-    ensures answers { (answer.new, result) ≡ put_after at (tree_words (moved base (tree_at (entries records.entry.store.now records.entry.used) m))) answer.old }
+pub fn write_tree(records: &Records, m: usize, base: usize, answer: &mut [u32], at: usize) -> usize
+    requires m_lt_used { m < records.now.used }
+    requires fit { Fit (tree_words (moved base (tree_at (entries records.now.store.now records.now.used) m))) }
+    requires m_in_bounds { at + length (tree_words (tree_at (entries records.now.store.now records.now.used) m)) ≤ length answer.old }
+    ensures answers { (answer.new, result) ≡ put_after at (tree_words (moved base (tree_at (entries records.now.store.now records.now.used) m))) answer.old }
 {
-    let head = pool::match_at(records, m);
+    let head = pool::match_at(*records, m);
     let count = count_arguments(records, head.args);
     let next = write_words(answer, at, head.set, head.rule, count);
     write_arguments(records, head.args, base, answer, next)
@@ -99,13 +98,13 @@ pub fn write_tree(records: Records, m: usize, base: usize, answer: &mut [u32], a
 
 // The words of arguments up to a last one: those of the ones before it, its own, and its match's if it is nested.
 #[cycle(write_arguments_write_tree)]
-fn write_arguments(records: Records, a: usize, base: usize, answer: &mut [u32], at: usize) -> usize
-    requires a_le_used { a ≤ records.used }
-    requires fit { Fit (arg_words (moved_args base (args_at (entries records.store.now records.used) a))) }
-    requires a_in_bounds { at + length (arg_words (args_at (entries records.store.now records.used) a)) ≤ length answer.old }
-    ensures { (answer.new, result) ≡ put_after at (arg_words (moved_args base (args_at (entries records.entry.store.now records.entry.used) a))) answer.old }
+fn write_arguments(records: &Records, a: usize, base: usize, answer: &mut [u32], at: usize) -> usize
+    requires a_le_used { a ≤ records.now.used }
+    requires fit { Fit (arg_words (moved_args base (args_at (entries records.now.store.now records.now.used) a))) }
+    requires a_in_bounds { at + length (arg_words (args_at (entries records.now.store.now records.now.used) a)) ≤ length answer.old }
+    ensures { (answer.new, result) ≡ put_after at (arg_words (moved_args base (args_at (entries records.now.store.now records.now.used) a))) answer.old }
 {
-    match pool::last_argument(records, a) {
+    match pool::last_argument(*records, a) {
         None => at,
         Some((argument, prev)) => {
             let next = write_arguments(records, prev, base, answer, at);

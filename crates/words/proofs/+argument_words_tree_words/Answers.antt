@@ -5,9 +5,13 @@ use Rattle.trees.proofs.Sizes.{size-expr, previous-asked, inner-asked}
 use Rattle.words.proofs.Writes.{words-sized, words-nest}
 use Rattle.words.proofs.+argument_words_tree_words.Goals as goal
 
+pub argument_words-argument_words-requires : goal.argument_words-argument_words-requires
+argument_words-argument_words-requires t c =
+    (omega (arith, c.decreases, (before _ _ c.last_argument.ensures.answers.lasts c.in-Some.is).earlier), previous-asked words-sized c.requires c.last_argument.ensures.answers.lasts c.in-Some.is)
+
 pub argument_words-overflow_add-result : goal.argument_words-overflow_add-result
 argument_words-overflow_add-result t c =
-    omega (arith, c.requires.small, size-expr words-sized c.last_argument.ensures.answers.lasts c.in-Some.is c.in-Expr.is, c.argument_words-before.ensures)
+    omega (arith, c.requires.small, size-expr words-sized c.last_argument.ensures.answers.lasts c.in-Some.is c.in-Expr.is, c.argument_words.ensures)
 
 pub argument_words-argument_words-before-requires : goal.argument_words-argument_words-before-requires
 argument_words-argument_words-before-requires t c =
@@ -27,7 +31,7 @@ argument_words-overflow_add-result-in-Nested-2 t c =
 
 pub argument_words-returns-in-Expr : goal.argument_words-returns-in-Expr
 argument_words-returns-in-Expr t c =
-    omega (arith, size-expr words-sized c.last_argument.ensures.answers.lasts c.in-Some.is c.in-Expr.is, c.argument_words-before.ensures)
+    omega (arith, size-expr words-sized c.last_argument.ensures.answers.lasts c.in-Some.is c.in-Expr.is, c.argument_words.ensures)
 
 pub argument_words-returns-in-Nested : goal.argument_words-returns-in-Nested
 argument_words-returns-in-Nested t c =
