@@ -39,7 +39,7 @@ pub record Found (ws : List ℕ) (resolved guesses : ℕ) (least : Least) : Type
   pub smallest : Smallest (map outcome_of ws) (Some least)
 
 pub none-bad :
-    {ws : List ℕ} {bad resolved guesses : ℕ} → length ws ≤ 4096 → Tallied ws bad resolved guesses → bad ≤ 0 →
+    {ws : List ℕ} {bad resolved known guesses : ℕ} → length ws ≤ 4096 → Tallied ws bad resolved known guesses → bad ≤ 0 →
     Judged ws resolved guesses
 none-bad {ws} few tally none_of =
     record {
@@ -80,7 +80,7 @@ module _ (ws : List ℕ) (last : Bool) (buffer : List ℕ) where
 
   -- 10: a bad word
   pub bad-word :
-      length ws ≤ 4096 → {bad resolved guesses : ℕ} → Tallied ws bad resolved guesses → 0 < bad →
+      length ws ≤ 4096 → {bad resolved known guesses : ℕ} → Tallied ws bad resolved known guesses → 0 < bad →
       Promised ws last buffer (Err BadList) ws buffer
   unfolding outcomes_of
   bad-word few tally some-bad =

@@ -21,8 +21,7 @@ use Rattle.resolver.specs.Outcome.{Outcome, size_in, outcome_of, is_bad, is_know
 use Rattle.resolver.specs.Outcome.Outcome.{unresolved}
 use Rattle.resolver.specs.Selection.{lesser, least_size, same_size, has_size}
 use Rattle.resolver.specs.LastPass.{size_at}
-use Rattle.resolver.specs.Passes.{size_of_least, times, Smallest}
-use Rattle.resolver.specs.declared.instruction.Least.{Least}
+use Rattle.resolver.specs.Passes.{Smallest}
 use Rattle.plain.proofs.Passed.{map_more, count-more, count_none, count_at, none-at}
 use Rattle.resolver.proofs.Words.{known-size, small_size, no_size, size-known, sized-known}
 
@@ -156,75 +155,97 @@ unfolding has_size same_size
 has-none None o e = refl
 has-none (Some n) o e = rw e
 
--- the turns of the pass: what it has found, with one outcome more
-module _ {os : List Outcome} {found : Option Least} (before : Smallest os found) (o : Outcome) where
-  turn :
-      (new : Option Least) → lesser (least_size os) (size_of o) ≡ size_of_least new →
-      times new ≡ count (has_size (size_of_least new)) os + select (has_size (size_of_least new) o) 1 0 →
-      Smallest (os ++ (o ∷ [])) new
-  turn new e f = record { least = rw least_more (sym e); many = rw (least_more, e, count-more) f }
+-- the least of the known sizes, or 65,536 for none, and how many outcomes have it
+pub record Sought (os : List Outcome) (size times : ℕ) : Type 0 where
+  pub least : size ≡ or_more (least_size os)
+  pub many : times ≡ count (has_size (least_size os)) os
 
-  turn-unknown : size_of o ≡ None → Smallest (os ++ (o ∷ [])) found
+-- no size is found where no outcome is known
+pub none_found : {os : List Outcome} {known : ℕ} → known ≡ count is_known os → known ≡ 0 → Smallest os None
+none_found {os} knowns none_of = go (least_size os) refl
+  where
+    go : (a : Option ℕ) → least_size os ≡ a → Smallest os None
+    go None e =
+        record {
+          least = sym e;
+          many =
+              rw e (sym (count_none (has_size None) os unresolved (λ i l h.
+              let (n, f, g) = has-true None (get_or os i unresolved) h in
+              none-ne-some n f)));
+        }
+    go (Some m) e = absurd (least_known os m e (sym knowns ∙ none_of))
+
+-- and else the least is
+some_found :
+    {os : List Outcome} {size times known : ℕ} → Sought os size times → known ≡ count is_known os → (known ≡ 0 → ⊥) →
+    Smallest os (Some (record { size = size; count = times }))
+some_found {os} sought knowns some-of-them =
+    let (m, e) = some_least os (λ none_of. some-of-them (knowns ∙ none_of)) in
+    record { least = rw e (ap Some (sought.least ∙ ap or_more e)); many = sought.many }
+
+-- the turns of the pass: what it has found, with one outcome more
+module _ {os : List Outcome} {least times : ℕ} (before : Sought os least times) (o : Outcome) where
+  turn :
+      (new : Option ℕ) {size many : ℕ} → lesser (least_size os) (size_of o) ≡ new → size ≡ or_more new →
+      many ≡ count (has_size new) os + select (has_size new o) 1 0 → Sought (os ++ (o ∷ [])) size many
+  turn new e f g = record { least = rw (least_more, e) f; many = rw (least_more, e, count-more) g }
+
+  turn-unknown : size_of o ≡ None → Sought (os ++ (o ∷ [])) least times
   turn-unknown e =
-      turn found (rw e (lesser-none (least_size os) ∙ sym before.least))
-      (rw (has-none _ o e, before.least) (omega (arith, before.many)))
+      turn (least_size os) (rw e (lesser-none (least_size os))) before.least
+      (rw (has-none _ o e) (omega (arith, before.many)))
 
   module _ {s : ℕ} (known : size_of o ≡ Some s) where
-    turn-less : s < or_more (size_of_least found) → Smallest (os ++ (o ∷ [])) (Some (record { size = s; count = 1 }))
+    turn-less : s < least → Sought (os ++ (o ∷ [])) s 1
     turn-less less =
-        let below : s < or_more (least_size os) = omega (arith, ap or_more before.least) in
-        turn (Some (record { size = s; count = 1 })) (rw known (lesser-below _ s below))
+        let below : s < or_more (least_size os) = omega (arith, before.least) in
+        turn (Some s) (rw known (lesser-below _ s below)) refl
         (rw (has_same s o known, none_below os s below))
 
-    module _ (small : s ≤ 65535) {f : Least} (is : found ≡ Some f) where
-      least-is : least_size os ≡ Some f.size
-      least-is = sym before.least ∙ ap size_of_least is
-
-      turn-above :
-          f.size ≤ s → (new : Least) → new.size ≡ f.size → new.count ≡ f.count + select (eqb f.size s) 1 0 →
-          Smallest (os ++ (o ∷ [])) (Some new)
+    module _ (small : s ≤ 65535) where
+      turn-above : least ≤ s → Sought (os ++ (o ∷ [])) least (times + select (eqb least s) 1 0)
       unfolding has_size
-      turn-above above new same many =
-          let over : or_more (least_size os) ≤ s = omega (arith, ap or_more least-is) in
-          let least : least_size os ≡ Some new.size = least-is ∙ ap Some (sym same) in
-          turn (Some new) (rw known (lesser-above _ s over small) ∙ least)
-          (rw (← least, known, same_above _ s over small, ap or_more least-is, many, ← before.many, ap times is))
+      turn-above above =
+          let over : or_more (least_size os) ≤ s = omega (arith, before.least) in
+          turn (least_size os) (rw known (lesser-above _ s over small)) before.least
+          (rw (known, same_above _ s over small, before.least, before.many))
 
-      turn-same : f.size ≡ s → Smallest (os ++ (o ∷ [])) (Some (record { size = s; count = f.count + 1 }))
-      turn-same same =
-          turn-above (omega arith) (record { size = s; count = f.count + 1 }) (sym same) (rw (eq-eqb f.size s same))
+      turn-same : s ≡ least → Sought (os ++ (o ∷ [])) least (times + 1)
+      turn-same same = rw (eq-eqb least s (sym same)) at (turn-above (omega arith))
 
-      turn-greater : f.size < s → Smallest (os ++ (o ∷ [])) (Some f)
-      turn-greater above = turn-above (omega arith) f refl (rw (ne_eqb f.size s (λ e. omega arith), add-zero))
+      turn-greater : least ≤ s → (s ≡ least → ⊥) → Sought (os ++ (o ∷ [])) least times
+      turn-greater above other = rw (ne_eqb least s (λ e. other (sym e)), add-zero) at (turn-above above)
 
 -- the pass over words: i of them are passed
-pub record Passing (ws : List ℕ) (i : ℕ) (found : Option Least) : Type 0 where
+pub record Passing (ws : List ℕ) (i least times : ℕ) : Type 0 where
   pub within : i ≤ length ws
   pub good : some_of is_bad ws ≡ false
-  pub smallest : Smallest (map outcome_of (take i ws)) found
-  pub most : times found ≤ i
+  pub found : Sought (map outcome_of (take i ws)) least times
+  pub most : times ≤ i
 
-pub none_passed : (ws : List ℕ) → some_of is_bad ws ≡ false → Passing ws 0 None
+pub none_passed : (ws : List ℕ) → some_of is_bad ws ≡ false → Passing ws 0 65536 0
 unfolding least_size has_size count
 none_passed ws good =
-    record { within = omega arith; good = good; smallest = record { least = refl; many = refl }; most = omega arith }
+    record { within = omega arith; good = good; found = record { least = refl; many = refl }; most = omega arith }
 
-module _ {ws : List ℕ} {i : ℕ} {found : Option Least} (before : Passing ws i found) where
-  pub all-passed : length ws ≤ i → Smallest (map outcome_of ws) found
-  all-passed past = rw (take_all i ws past) at before.smallest
+module _ {ws : List ℕ} {i least times : ℕ} (before : Passing ws i least times) where
+  pub all-passed :
+      {known : ℕ} → known ≡ count is_known (map outcome_of ws) → (known ≡ 0 → ⊥) → length ws ≤ i →
+      Smallest (map outcome_of ws) (Some (record { size = least; count = times }))
+  all-passed knowns some-of-them past = some_found (rw (take_all i ws past) at before.found) knowns some-of-them
 
   module _ (more : i < length ws) where
     passed :
-        {new : Option Least} → Smallest (map outcome_of (take i ws) ++ (outcome_of (get_or ws i 0) ∷ [])) new →
-        times new ≤ i + 1 → Passing ws (i + 1) new
+        {size many : ℕ} → Sought (map outcome_of (take i ws) ++ (outcome_of (get_or ws i 0) ∷ [])) size many →
+        many ≤ i + 1 → Passing ws (i + 1) size many
     passed next few =
-        record { within = omega arith; good = before.good; smallest = rw (map_more outcome_of ws i 0 more) next; most = few }
+        record { within = omega arith; good = before.good; found = rw (map_more outcome_of ws i 0 more) next; most = few }
 
     module _ {test : Bool} (answer : test ≡ is_known (outcome_of (get_or ws i 0))) where
       -- the next word is not known
-      pub pass-unknown : test ≡ false → Passing ws (i + 1) found
+      pub pass-unknown : test ≡ false → Passing ws (i + 1) least times
       pass-unknown no_test =
-          passed (turn-unknown before.smallest _ (no_size _ (sym answer ∙ no_test))) (omega (arith, before.most))
+          passed (turn-unknown before.found _ (no_size _ (sym answer ∙ no_test))) (omega (arith, before.most))
 
       module _ (known : test ≡ true) {s : ℕ} (size : s ≡ size_in (get_or ws i 0)) where
         size_is : size_of (outcome_of (get_or ws i 0)) ≡ Some s
@@ -233,22 +254,15 @@ module _ {ws : List ℕ} {i : ℕ} {found : Option Least} (before : Passing ws i
         small : s ≤ 65535
         small = small_size _ (none-at is_bad ws 0 before.good i more) s size_is
 
-        -- its size is the first
-        pub pass-first : found ≡ None → Passing ws (i + 1) (Some (record { size = s; count = 1 }))
-        pass-first first =
-            passed (turn-less before.smallest _ size_is (rw first (omega (arith, small)))) (omega arith)
+        -- its size is less than the least
+        pub pass-less : s < least → Passing ws (i + 1) s 1
+        pass-less less = passed (turn-less before.found _ size_is less) (omega arith)
 
-        module _ {f : Least} (is : found ≡ Some f) where
-          -- its size is less than the least
-          pub pass-less : s < f.size → Passing ws (i + 1) (Some (record { size = s; count = 1 }))
-          pass-less less = passed (turn-less before.smallest _ size_is (rw is less)) (omega arith)
+        -- it is the least
+        pub pass_same : s ≡ least → Passing ws (i + 1) least (times + 1)
+        pass_same same = passed (turn-same before.found _ size_is small same) (omega (arith, before.most))
 
-          -- it is the least
-          pub pass_same : f.size ≡ s → Passing ws (i + 1) (Some (record { size = s; count = f.count + 1 }))
-          pass_same same =
-              passed (turn-same before.smallest _ size_is small is same) (omega (arith, before.most, ap times is))
-
-          -- it is greater
-          pub pass-greater : f.size < s → Passing ws (i + 1) (Some f)
-          pass-greater above =
-              passed (turn-greater before.smallest _ size_is small is above) (omega (arith, before.most, ap times is))
+        -- it is greater
+        pub pass-greater : least ≤ s → (s ≡ least → ⊥) → Passing ws (i + 1) least times
+        pass-greater above other =
+            passed (turn-greater before.found _ size_is small above other) (omega (arith, before.most))

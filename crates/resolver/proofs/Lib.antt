@@ -1,6 +1,5 @@
 pub mod Words
 pub mod Tally
-pub mod OtherKinds
 pub mod Least
 pub mod Written
 pub mod Marks

@@ -3,16 +3,15 @@
 use Rattle.std.specs.Prelude.{◌≡◌, List, map, ℕ, ◌+◌, ◌-◌, ◌%◌, leb, Option, None, Some}
 use Rattle.plain.specs.Choice.{select}
 use Rattle.plain.specs.Lists.{count}
-use Rattle.resolver.specs.Outcome.{Outcome, kind_in, outcome_of, is_bad, is_guess, is_resolved}
+use Rattle.resolver.specs.Outcome.{Outcome, kind_in, outcome_of, is_bad, is_guess, is_resolved, is_known}
 use Rattle.resolver.specs.Selection.{least_size, has_size}
 use Rattle.resolver.specs.declared.instruction.Least.{Least}
-use Rattle.resolver.specs.declared.outcome.Kind.{Kind}
-use Rattle.resolver.specs.declared.outcome.Kind.TheVariants.{Unresolved, Failed, Unknown, Sized}
 
--- how many words are bad, and how many outcomes are resolved and guesses
-pub record Tallied (ws : List ℕ) (bad resolved guesses : ℕ) : Type 0 where
+-- how many words are bad, and how many outcomes are resolved, known and guesses
+pub record Tallied (ws : List ℕ) (bad resolved known guesses : ℕ) : Type 0 where
   pub bads : bad ≡ count is_bad ws
   pub resolveds : resolved ≡ count is_resolved (map outcome_of ws)
+  pub knowns : known ≡ count is_known (map outcome_of ws)
   pub guessings : guesses ≡ count is_guess (map outcome_of ws)
 
 -- the size that is the least so far, and how many outcomes have it
@@ -28,13 +27,6 @@ times (Some found) = found.count
 pub record Smallest (os : List Outcome) (found : Option Least) : Type 0 where
   pub least : size_of_least found ≡ least_size os
   pub many : times found ≡ count (has_size (least_size os)) os
-
--- the number of a kind
-abbrev pub kind_says : Kind → ℕ
-kind_says Unresolved = 0
-kind_says Failed = 1
-kind_says Unknown = 2
-kind_says Sized = 3
 
 -- a word of kind 1 to 3 with its guess bit; an unresolved word stays
 unfoldable pub marked_word : ℕ → ℕ

@@ -4,7 +4,7 @@
 ghost use Rattle.std.specs.Prelude.{◌≡◌, false, map, ◌≤◌, length, Some};
 ghost use Rattle.plain.specs.Buffers.{at_start};
 ghost use Rattle.plain.specs.Lists.{some_of, count};
-ghost use Rattle.resolver.specs.Outcome.{outcome_of, word_of, is_bad, is_guess};
+ghost use Rattle.resolver.specs.Outcome.{outcome_of, word_of, is_bad, is_guess, is_known};
 ghost use Rattle.resolver.specs.Selection.{marked, indices_of, answered, selected};
 ghost use Rattle.resolver.specs.LastPass.{OnLastPass};
 ghost use Rattle.resolver.specs.Passes.{Tallied, Smallest, marked_word};
@@ -13,6 +13,9 @@ use crate::outcome::{has_size, is_bad, is_guess, is_known, is_resolved, mark_gue
 
 // The most words that a list may have.
 const MOST_WORDS: usize = 4096;
+
+// More than any size.
+const NO_SIZE: u32 = 65_536;
 
 // Why nothing is chosen. `selection_says` gives each case's number and count: 10 to 14, in this order, and 0 for a choice.
 #[derive(Clone, Copy)]
@@ -29,6 +32,7 @@ pub enum SelectError {
 struct Tally {
     bad: usize,
     resolved: usize,
+    known: usize,
     guesses: usize,
 }
 
@@ -39,45 +43,52 @@ struct Least {
     count: usize,
 }
 
-// Judges the words: how many are bad, and how many outcomes are resolved and guesses.
+// Judges the words: how many are bad, and how many outcomes are resolved, known and guesses.
 fn judge(words: &[u32]) -> Tally
-    ensures tally { Tallied words.now result.bad result.resolved result.guesses }
+    ensures tally { Tallied words.now result.bad result.resolved result.known result.guesses }
 {
     let mut bad = 0;
     let mut resolved = 0;
+    let mut known = 0;
     let mut guesses = 0;
     for word in words {
         bad += is_bad(*word) as usize;
         resolved += is_resolved(*word) as usize;
+        known += is_known(*word) as usize;
         guesses += is_guess(*word) as usize;
     }
     Tally {
         bad,
         resolved,
+        known,
         guesses,
     }
 }
 
-// The least size among the sized outcomes, and how many have it, or none if none is sized.
-fn smallest(words: &[u32]) -> Option<Least>
+// The least size among the sized outcomes, and how many have it, or none if none is sized, which takes no pass. The pass
+// keeps two numbers, since an Option would be tested at each word.
+fn smallest(words: &[u32], known: usize) -> Option<Least>
     requires good { some_of is_bad words.now ≡ false }
+    requires known { known ≡ count is_known (map outcome_of words.now) }
     ensures least { Smallest (map outcome_of words.now) result }
 {
-    let mut least: Option<Least> = None;
+    if known == 0 {
+        return None;
+    }
+    let mut least = NO_SIZE;
+    let mut count = 0;
     for word in words {
         if is_known(*word) {
             let size = size(*word);
-            least = Some(match least {
-                Some(found) if found.size < size => found,
-                Some(found) if found.size == size => Least {
-                    size,
-                    count: found.count + 1,
-                },
-                _ => Least { size, count: 1 },
-            });
+            if size < least {
+                least = size;
+                count = 1;
+            } else if size == least {
+                count += 1;
+            }
         }
     }
-    least
+    Some(Least { size: least, count })
 }
 
 // Every word of kind 1 to 3 gets its guess bit.
@@ -136,7 +147,7 @@ pub fn resolve_encoding(
     if tally.resolved == 0 {
         return Err(SelectError::NoneResolved);
     }
-    let Some(least) = smallest(words) else {
+    let Some(least) = smallest(words, tally.known) else {
         return Err(SelectError::NoneKnown);
     };
     let count = least.count;

@@ -5,7 +5,7 @@ ghost use Rattle.std.specs.Prelude.{◌≡◌, Some};
 ghost use Rattle.resolver.specs.Outcome.{kind_in, size_in, outcome_of, is_bad};
 ghost use Rattle.resolver.specs.Outcome.{is_guess, is_resolved, is_known};
 ghost use Rattle.resolver.specs.Selection.{has_size};
-ghost use Rattle.resolver.specs.Passes.{kind_says, marked_word};
+ghost use Rattle.resolver.specs.Passes.{marked_word};
 
 // What a kind and a size are multiplied by in a word, and how many kinds there are.
 const KIND_UNIT: u32 = 2;
@@ -17,7 +17,7 @@ const KINDS: u32 = 4;
 // The greatest size.
 const MOST_SIZE: u32 = 65_535;
 
-#[derive(Clone, Copy)]
+// The kinds, each the name of its number.
 enum Kind {
     Unresolved,
     Failed,
@@ -25,18 +25,12 @@ enum Kind {
     Sized,
 }
 
-impl Kind {
-    // A word's kind.
-    fn of(word: u32) -> Kind
-        ensures kind { kind_says result ≡ kind_in word }
-    {
-        match word / KIND_UNIT % KINDS {
-            0 => Kind::Unresolved,
-            1 => Kind::Failed,
-            2 => Kind::Unknown,
-            _ => Kind::Sized,
-        }
-    }
+// The number of a word's kind. It is compared as a number, so that a loop over words tests several at once; with a match
+// it tests one after the other.
+fn kind_in(word: u32) -> u32
+    ensures kind { result ≡ kind_in word }
+{
+    word / KIND_UNIT % KINDS
 }
 
 // A word's size.
@@ -51,35 +45,39 @@ pub fn size(word: u32) -> u32
 pub fn is_bad(word: u32) -> bool
     ensures bad { result ≡ is_bad word }
 {
-    match Kind::of(word) {
-        Kind::Unresolved => word != 0,
-        Kind::Failed | Kind::Unknown => size(word) != 0,
-        Kind::Sized => MOST_SIZE < size(word),
+    let kind = kind_in(word);
+    if kind == Kind::Unresolved as u32 {
+        return word != 0;
     }
+    let size = size(word);
+    if kind == Kind::Sized as u32 {
+        return MOST_SIZE < size;
+    }
+    size != 0
 }
 
 // Whether the outcome is a guess. An unresolved one counts as one.
 pub fn is_guess(word: u32) -> bool
     ensures guess { result ≡ is_guess (outcome_of word) }
 {
-    match Kind::of(word) {
-        Kind::Unresolved => true,
-        _ => word % KIND_UNIT == 1,
+    if kind_in(word) == Kind::Unresolved as u32 {
+        return true;
     }
+    word % KIND_UNIT == 1
 }
 
 // Whether the outcome is resolved: kinds 2 and 3.
 pub fn is_resolved(word: u32) -> bool
     ensures resolved { result ≡ is_resolved (outcome_of word) }
 {
-    matches!(Kind::of(word), Kind::Unknown | Kind::Sized)
+    Kind::Unknown as u32 <= kind_in(word)
 }
 
 // Whether the outcome is known: kind 3.
 pub fn is_known(word: u32) -> bool
     ensures known { result ≡ is_known (outcome_of word) }
 {
-    matches!(Kind::of(word), Kind::Sized)
+    kind_in(word) == Kind::Sized as u32
 }
 
 // Whether the outcome is sized with this size.
@@ -93,8 +91,8 @@ pub fn has_size(word: u32, wanted: u32) -> bool
 pub fn mark_guess(word: u32) -> u32
     ensures marked { result ≡ marked_word word }
 {
-    match Kind::of(word) {
-        Kind::Unresolved => word,
-        _ => word - word % KIND_UNIT + 1,
+    if Kind::Failed as u32 <= kind_in(word) {
+        return word - word % KIND_UNIT + 1;
     }
+    word
 }

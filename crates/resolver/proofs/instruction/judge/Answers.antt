@@ -12,4 +12,5 @@ loop-word-preserved c =
     (omega arith)
     c.is_bad.ensures.bad
     c.is_resolved.ensures.resolved
+    c.is_known.ensures.known
     c.is_guess.ensures.guess

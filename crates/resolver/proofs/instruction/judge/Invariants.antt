@@ -3,4 +3,4 @@ use Rattle.resolver.proofs.Tally.{Judging}
 use Rattle.resolver.proofs.instruction.judge.Given as goal
 
 abbrev pub invariant-loop-word : goal.invariant-loop-word
-invariant-loop-word l = Judging l.words l.word-index l.bad l.resolved l.guesses
+invariant-loop-word l = Judging l.words l.word-index l.bad l.resolved l.known l.guesses

@@ -20,8 +20,8 @@ use Rattle.resolver.proofs.instruction.resolve_encoding.Goals as goal
 
 -- past the third test some outcome is known, and the least size has been sought
 found :
-    {ws : List ℕ} {bad resolved guesses : ℕ} {least : Least} → length ws ≤ 4096 → Tallied ws bad resolved guesses →
-    bad ≤ 0 → (resolved ≡ 0 → ⊥) → Smallest (map outcome_of ws) (Some least) → Found ws resolved guesses least
+    {ws : List ℕ} {bad resolved known guesses : ℕ} {least : Least} → length ws ≤ 4096 →
+    Tallied ws bad resolved known guesses → bad ≤ 0 → (resolved ≡ 0 → ⊥) → Smallest (map outcome_of ws) (Some least) → Found ws resolved guesses least
 found few tally none some_resolved smallest =
     record { judged = none-bad few tally none; some_resolved = some_resolved; smallest = smallest }
 
@@ -53,8 +53,11 @@ returns-in_default-clause-answers c = (none-known _ _ _ (none-bad (omega arith) 
 pub returns-in_default-clause-last_pass : goal.returns-in_default-clause-last_pass
 returns-in_default-clause-last_pass c = (none-known _ _ _ (none-bad (omega arith) c.judge-tally.ensures.tally c.if-tally-gt0.false) c.if-tally-eq0.false (rw c.in_default.is at c.smallest.ensures.least)).1
 
-pub smallest-requires : goal.smallest-requires
-smallest-requires c = record { good = (none-bad (omega arith) c.judge-tally.ensures.tally c.if-tally-gt0.false).good }
+pub smallest-requires-clause-good : goal.smallest-requires-clause-good
+smallest-requires-clause-good c = (none-bad (omega arith) c.judge-tally.ensures.tally c.if-tally-gt0.false).good
+
+pub smallest-requires-clause-known : goal.smallest-requires-clause-known
+smallest-requires-clause-known c = c.judge-tally.ensures.tally.knowns
 
 pub mark-requires-clause-good : goal.mark-requires-clause-good
 mark-requires-clause-good c = (none-bad (omega arith) c.judge-tally.ensures.tally c.if-tally-gt0.false).good

@@ -4,4 +4,4 @@ use Rattle.resolver.proofs.Least.{Passing}
 use Rattle.resolver.proofs.instruction.smallest.Given as goal
 
 abbrev pub invariant-loop-word : goal.invariant-loop-word
-invariant-loop-word l = Passing l.words l.word-index l.least
+invariant-loop-word l = Passing l.words l.word-index l.least l.count

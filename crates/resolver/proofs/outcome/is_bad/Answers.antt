@@ -1,15 +1,22 @@
-use mathlib.Core.Logic.{⊎_elim}
+-- `resolver::outcome::is_bad` meets its contract: each answer rewrites with the tests of the kind that led to it.
+use mathlib.Core.Path.{sym, ◌∙◌}
+use borrow.Author.Tests.{ne_eqb}
 use Rattle.resolver.specs.Outcome.{is_bad}
 use Rattle.resolver.proofs.outcome.is_bad.Goals as goal
 
-pub returns-in-Unresolved : goal.returns-in-Unresolved
+pub returns-then-kind : goal.returns-then-kind
 unfolding is_bad
-returns-in-Unresolved c = record { bad = rw (← c.of.ensures.kind, c.in-Unresolved.is) }
+returns-then-kind c = record { bad = rw (sym c.kind_in-kind.ensures.kind ∙ c.if-kind.true) }
 
-pub returns-in-Failed : goal.returns-in-Failed
+pub returns-then-kind-2 : goal.returns-then-kind-2
 unfolding is_bad
-returns-in-Failed c = record { bad = rw (← c.of.ensures.kind, c.size.ensures.size) (⊎_elim (λ e. rw e) (λ e. rw e) c.in-Failed.is) }
+returns-then-kind-2 c = record { bad = rw (c.size-size.ensures.size, sym c.kind_in-kind.ensures.kind ∙ c.if-kind-2.true) }
 
-pub returns-in-Sized : goal.returns-in-Sized
+pub returns : goal.returns
 unfolding is_bad
-returns-in-Sized c = record { bad = rw (← c.of.ensures.kind, c.in-Sized.is, c.size-in-Sized.ensures.size) }
+returns c = record {
+  bad =
+      let not-sized = rw c.kind_in-kind.ensures.kind at c.if-kind-2.false in
+      let not-unresolved = rw c.kind_in-kind.ensures.kind at c.if-kind.false in
+      rw (c.size-size.ensures.size, ne_eqb _ _ not-sized, ne_eqb _ _ not-unresolved);
+}

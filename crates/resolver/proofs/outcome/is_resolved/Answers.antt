@@ -1,14 +1,6 @@
-use mathlib.Core.Logic.{⊎_elim}
-use Rattle.resolver.proofs.OtherKinds.{not_resolved}
+-- `resolver::outcome::is_resolved` meets its contract: an outcome is resolved if its kind is 2 or more.
 use Rattle.resolver.proofs.Words.{resolved-by-kind}
 use Rattle.resolver.proofs.outcome.is_resolved.Goals as goal
 
-pub returns-in-Unknown : goal.returns-in-Unknown
-returns-in-Unknown c = record {
-  resolved = rw (resolved-by-kind, ← c.of.ensures.kind) (⊎_elim (λ e. rw e) (λ e. rw e) c.in-Unknown.is);
-}
-
-pub returns-in_default : goal.returns-in_default
-returns-in_default c = record {
-  resolved = rw (resolved-by-kind, ← c.of.ensures.kind, not_resolved _ c.in_default.not-Unknown c.in_default.not-Sized);
-}
+pub returns : goal.returns
+returns c = record { resolved = rw (resolved-by-kind, c.kind_in.ensures.kind) }
