@@ -50,7 +50,9 @@ fn lay_three(table: &mut [u16], at: usize, first: usize, second: usize, third: u
     requires third_bound { third < 65536 }
     ensures laid { table.new ≡ sets table.old at (first ∷ second ∷ third ∷ []) }
 {
-    table[at..at + 3].copy_from_slice(&[first as u16, second as u16, third as u16]);
+    table[at] = first as u16;
+    table[at + 1] = second as u16;
+    table[at + 2] = third as u16;
 }
 
 // The flags of a judged text's rulesets; gives its rules' lines.
